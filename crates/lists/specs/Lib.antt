@@ -1,0 +1,2 @@
+-- Definitions on lists.
+pub mod Lists

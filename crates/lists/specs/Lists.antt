@@ -1,0 +1,80 @@
+-- Plain definitions on lists that the specifications of every layer share. Tests are Bools, so that they compute.
+-- Assumes nothing.
+use mathlib.Core.Bool.{Bool, true, false, cond, _||_, _&&_}
+use mathlib.Core.List.{List, [], _∷_}
+use Prim.Native.Nat.{ℕ, zero, suc, _<_}
+use lib.Dec.{eqb, ltb}
+
+module _ {A : Type 0} where
+  -- `x` in front of `xs` where the test passed, else `xs` alone.
+  abbrev pub consIf : Bool → A → List A → List A
+  consIf true x xs = x ∷ xs
+  consIf false x xs = xs
+
+  -- The elements of a list that pass the test, in their order.
+  abbrev pub keep : (A → Bool) → List A → List A
+  keep f [] = []
+  keep f (x ∷ xs) = consIf (f x) x (keep f xs)
+
+  -- Every element passes the test.
+  abbrev pub every : (A → Bool) → List A → Bool
+  every f [] = true
+  every f (x ∷ xs) = f x && every f xs
+
+  -- Some element passes the test.
+  abbrev pub some : (A → Bool) → List A → Bool
+  some f [] = false
+  some f (x ∷ xs) = f x || some f xs
+
+  -- Every element has the property, as a pair of proofs for each.
+  abbrev pub All : (A → Type 0) → List A → Type 0
+  All P [] = Unit {0}
+  All P (x ∷ xs) = P x × All P xs
+
+  -- `x` before the first element that it goes before, at the end where it goes before none.
+  abbrev pub insertBy : (A → A → Bool) → A → List A → List A
+  insertBy before x [] = x ∷ []
+  insertBy before x (y ∷ ys) = cond (before x y) (x ∷ y ∷ ys) (y ∷ insertBy before x ys)
+
+  -- The list in the order `before`: one element after the other put in its place.
+  abbrev pub sortBy : (A → A → Bool) → List A → List A
+  sortBy before [] = []
+  sortBy before (x ∷ xs) = insertBy before x (sortBy before xs)
+
+-- `x` is one of the numbers of the list.
+abbrev pub member : ℕ → List ℕ → Bool
+member x [] = false
+member x (y ∷ ys) = eqb x y || member x ys
+
+-- The first number that passes the test; zero where none does.
+abbrev pub first : (ℕ → Bool) → List ℕ → ℕ
+first f [] = 0
+first f (x ∷ xs) = cond (f x) x (first f xs)
+
+-- The last number of the list; zero where it has none.
+abbrev pub last : List ℕ → ℕ
+last [] = 0
+last (x ∷ []) = x
+last (x ∷ y ∷ ys) = last (y ∷ ys)
+
+-- The largest number up to `bound` that passes the test; zero where none above it does.
+abbrev pub largest : (ℕ → Bool) → ℕ → ℕ
+largest f zero = 0
+largest f (suc bound) =
+    let below = largest f bound in
+    cond (f (suc bound)) (suc bound) below
+
+-- `from`, `from + 1`, .., as many numbers as `many`.
+abbrev pub upFrom : ℕ → ℕ → List ℕ
+upFrom start zero = []
+upFrom start (suc many) = start ∷ upFrom (suc start) many
+
+-- `n`, `n − 1`, .., 1.
+abbrev pub fallingFrom : ℕ → List ℕ
+fallingFrom zero = []
+fallingFrom (suc n) = suc n ∷ fallingFrom n
+
+-- The list rises strictly: each number is below all that come after it.
+abbrev pub Rising : List ℕ → Type 0
+Rising [] = Unit {0}
+Rising (x ∷ xs) = All (λ y. x < y) xs × Rising xs

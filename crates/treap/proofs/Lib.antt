@@ -1,0 +1,2 @@
+-- Facts about the definitions of this crate by themselves.
+pub mod Examples
