@@ -31,6 +31,11 @@ module _ {A : Type 0} where
   All P [] = Unit {0}
   All P (x ∷ xs) = P x × All P xs
 
+  -- Every element stands in the relation to all that come after it.
+  abbrev pub Pairwise : (A → A → Type 0) → List A → Type 0
+  Pairwise R [] = Unit {0}
+  Pairwise R (x ∷ xs) = All (R x) xs × Pairwise R xs
+
   -- `x` before the first element that it goes before, at the end where it goes before none.
   abbrev pub insertBy : (A → A → Bool) → A → List A → List A
   insertBy before x [] = x ∷ []
@@ -76,5 +81,4 @@ fallingFrom (suc n) = suc n ∷ fallingFrom n
 
 -- The list rises strictly: each number is below all that come after it.
 abbrev pub Rising : List ℕ → Type 0
-Rising [] = Unit {0}
-Rising (x ∷ xs) = All (λ y. x < y) xs × Rising xs
+Rising xs = Pairwise _<_ xs

@@ -1,0 +1,89 @@
+-- Laws of `keep`, the filter by a Bool test, and of `All`. Assumes nothing.
+use mathlib.Core.Bool.{Bool, true, false, _||_, _&&_, not}
+use mathlib.Core.List.{List, [], _∷_, _++_, map}
+use mathlib.Core.Path.{_≡_, refl, sym, ap, ap₂, _∙_}
+use Prim.Native.Nat.{ℕ, suc, _+_, _≤_, _<_}
+use native.Mathlib.Omega.{arith}
+use lib.ListN.{length}
+use Rattle.lists.specs.Lists.{consIf, keep, every, some, All}
+use Rattle.lists.proofs.Tests.{by-test, true-or-false, and-left, and-right, and-both}
+
+module _ {A : Type 0} where
+  -- ---- All
+  pub all-map : (P Q : A → Type 0) → ((x : A) → P x → Q x) → (xs : List A) → All P xs → All Q xs
+  all-map P Q f [] h = tt
+  all-map P Q f (x ∷ xs) h = (f x (h .0), all-map P Q f xs (h .1))
+
+  pub all-always : (P : A → Type 0) → ((x : A) → P x) → (xs : List A) → All P xs
+  all-always P f [] = tt
+  all-always P f (x ∷ xs) = (f x, all-always P f xs)
+
+  pub all-both : (P Q : A → Type 0) (xs : List A) → All P xs → All Q xs → All (λ x. P x × Q x) xs
+  all-both P Q [] h k = tt
+  all-both P Q (x ∷ xs) h k = ((h .0, k .0), all-both P Q xs (h .1) (k .1))
+
+  pub all-append : (P : A → Type 0) (xs ys : List A) → All P xs → All P ys → All P (xs ++ ys)
+  all-append P [] ys h k = k
+  all-append P (x ∷ xs) ys h k = (h .0, all-append P xs ys (h .1) k)
+
+  pub all-append-left : (P : A → Type 0) (xs ys : List A) → All P (xs ++ ys) → All P xs
+  all-append-left P [] ys h = tt
+  all-append-left P (x ∷ xs) ys h = (h .0, all-append-left P xs ys (h .1))
+
+  pub all-append-right : (P : A → Type 0) (xs ys : List A) → All P (xs ++ ys) → All P ys
+  all-append-right P [] ys h = h
+  all-append-right P (x ∷ xs) ys h = all-append-right P xs ys (h .1)
+
+  all-consIf : (P : A → Type 0) (b : Bool) (x : A) (xs : List A) → P x → All P xs → All P (consIf b x xs)
+  all-consIf P true x xs h k = (h, k)
+  all-consIf P false x xs h k = k
+
+  pub all-keep : (P : A → Type 0) (f : A → Bool) (xs : List A) → All P xs → All P (keep f xs)
+  all-keep P f [] h = tt
+  all-keep P f (x ∷ xs) h = all-consIf P (f x) x (keep f xs) (h .0) (all-keep P f xs (h .1))
+
+  -- every element kept passes the test
+  pub kept-pass : (f : A → Bool) (xs : List A) → All (λ x. f x ≡ true) (keep f xs)
+  kept-pass f [] = tt
+  kept-pass f (x ∷ xs) =
+      by-test (f x)
+      (λ e. rw e (e, kept-pass f xs))
+      (λ e. rw e (kept-pass f xs))
+
+  -- ---- keep
+  consIf-append : (b : Bool) (x : A) (xs ys : List A) → consIf b x (xs ++ ys) ≡ consIf b x xs ++ ys
+  consIf-append true x xs ys = refl
+  consIf-append false x xs ys = refl
+
+  pub keep-append : (f : A → Bool) (xs ys : List A) → keep f (xs ++ ys) ≡ keep f xs ++ keep f ys
+  keep-append f [] ys = refl
+  keep-append f (x ∷ xs) ys = ap (consIf (f x) x) (keep-append f xs ys) ∙ consIf-append (f x) x (keep f xs) (keep f ys)
+
+  pub keep-all : (f : A → Bool) (xs : List A) → All (λ x. f x ≡ true) xs → keep f xs ≡ xs
+  keep-all f [] h = refl
+  keep-all f (x ∷ xs) h = rw (h .0) (ap (λ (l : List A). x ∷ l) (keep-all f xs (h .1)))
+
+  pub keep-none : (f : A → Bool) (xs : List A) → All (λ x. f x ≡ false) xs → keep f xs ≡ []
+  keep-none f [] h = refl
+  keep-none f (x ∷ xs) h = rw (h .0) (keep-none f xs (h .1))
+
+  pub keep-same : (f g : A → Bool) (xs : List A) → All (λ x. f x ≡ g x) xs → keep f xs ≡ keep g xs
+  keep-same f g [] h = refl
+  keep-same f g (x ∷ xs) h = ap₂ (λ b l. consIf b x l) (h .0) (keep-same f g xs (h .1))
+
+  length-consIf : (b : Bool) (x : A) (xs : List A) → length (consIf b x xs) ≤ suc (length xs)
+  length-consIf true x xs = omega arith
+  length-consIf false x xs = omega arith
+
+  pub length-keep : (f : A → Bool) (xs : List A) → length (keep f xs) ≤ length xs
+  length-keep f [] = omega arith
+  length-keep f (x ∷ xs) = omega (arith, length-consIf (f x) x (keep f xs), length-keep f xs)
+
+  -- ---- every
+  pub every-when : (f : A → Bool) (xs : List A) → All (λ x. f x ≡ true) xs → every f xs ≡ true
+  every-when f [] h = refl
+  every-when f (x ∷ xs) h = and-both (f x) (every f xs) (h .0) (every-when f xs (h .1))
+
+  pub every-says : (f : A → Bool) (xs : List A) → every f xs ≡ true → All (λ x. f x ≡ true) xs
+  every-says f [] h = tt
+  every-says f (x ∷ xs) h = (and-left (f x) (every f xs) h, every-says f xs (and-right (f x) (every f xs) h))

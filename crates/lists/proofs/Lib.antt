@@ -1,0 +1,7 @@
+-- Laws on lists, one subject a file. Nothing here knows of treaps or tables.
+pub mod Tests
+pub mod Keep
+pub mod Membership
+pub mod Pairwise
+pub mod Rising
+pub mod Sorting

@@ -1,0 +1,54 @@
+-- Rising lists: the parts below and above an element, and that a rising list is determined by its members. Assumes nothing.
+use mathlib.Core.Bool.{Bool, true, false, _||_, _&&_}
+use mathlib.Core.List.{List, [], _∷_, _++_, append-nil}
+use mathlib.Core.Logic.{⊎-elim}
+use mathlib.Core.Path.{_≡_, refl, sym, ap, ap₂, _∙_, subst}
+use Prim.Native.Nat.{ℕ, _<_}
+use native.Mathlib.Omega.{arith}
+use lib.Dec.{eqb, ltb}
+use borrow.Author.Tests.{eqb-true, lt-ltb, le-ltb}
+use Rattle.lists.specs.Lists.{keep, All, member, Rising}
+use Rattle.lists.proofs.Tests.{true-or-false, or-true-cases}
+use Rattle.lists.proofs.Keep.{all-map, keep-append, keep-all, keep-none}
+use Rattle.lists.proofs.Membership.{all-member}
+use Rattle.lists.proofs.Pairwise.{pairwise-join, pairwise-unique}
+
+pub rising-join : (xs : List ℕ) (y : ℕ) (ys : List ℕ) → Rising xs → Rising ys → All (λ x. x < y) xs → All (λ z. y < z) ys → Rising (xs ++ y ∷ ys)
+rising-join = pairwise-join _<_ (λ x y z p q. omega arith)
+
+pub rising-unique : (xs ys : List ℕ) → Rising xs → Rising ys → All (λ x. member x ys ≡ true) xs → All (λ y. member y xs ≡ true) ys → xs ≡ ys
+rising-unique = pairwise-unique _<_ (λ x y p q. omega arith)
+
+-- the elements below and above r of a rising list that has r between them
+pub keep-below : (xs : List ℕ) (r : ℕ) (ys : List ℕ) → All (λ x. x < r) xs → All (λ y. r < y) ys → keep (λ x. ltb x r) (xs ++ r ∷ ys) ≡ xs
+keep-below xs r ys h k =
+    keep-append (λ x. ltb x r) xs (r ∷ ys)
+    ∙ ap₂ (λ a b. a ++ b) (keep-all (λ x. ltb x r) xs (all-map (λ x. x < r) (λ x. ltb x r ≡ true) (λ x l. lt-ltb x r l) xs h))
+    (keep-none (λ x. ltb x r) (r ∷ ys) (le-ltb r r (omega arith), all-map (λ y. r < y) (λ y. ltb y r ≡ false) (λ y (l : r < y). le-ltb y r (omega arith)) ys k))
+    ∙ append-nil xs
+
+pub keep-above : (xs : List ℕ) (r : ℕ) (ys : List ℕ) → All (λ x. x < r) xs → All (λ y. r < y) ys → keep (λ x. ltb r x) (xs ++ r ∷ ys) ≡ ys
+keep-above xs r ys h k =
+    keep-append (λ x. ltb r x) xs (r ∷ ys)
+    ∙ ap₂ (λ a b. a ++ b) (keep-none (λ x. ltb r x) xs (all-map (λ x. x < r) (λ x. ltb r x ≡ false) (λ x (l : x < r). le-ltb r x (omega arith)) xs h))
+    (rw (le-ltb r r (omega arith)) (keep-all (λ x. ltb r x) ys (all-map (λ y. r < y) (λ y. ltb r y ≡ true) (λ y l. lt-ltb r y l) ys k)))
+
+-- a rising list at one of its members: what is below it, it, what is above it
+pub rising-split : (ks : List ℕ) (r : ℕ) → Rising ks → member r ks ≡ true → keep (λ x. ltb x r) ks ++ r ∷ keep (λ x. ltb r x) ks ≡ ks
+rising-split [] r h m = absurd (true-or-false false m refl)
+rising-split (k ∷ ks) r h m =
+    ⊎-elim
+    (λ (e : eqb r k ≡ true).
+    let q = eqb-true r k e in
+    let above : All (λ x. r < x) ks = subst (λ (z : ℕ). All (λ x. z < x) ks) (sym q) (h .0) in
+    rw (
+      le-ltb k r (omega arith),
+      le-ltb r k (omega arith),
+      keep-none (λ x. ltb x r) ks (all-map (λ x. r < x) (λ x. ltb x r ≡ false) (λ x (l : r < x). le-ltb x r (omega arith)) ks above),
+      keep-all (λ x. ltb r x) ks (all-map (λ x. r < x) (λ x. ltb r x ≡ true) (λ x l. lt-ltb r x l) ks above),
+    )
+    (ap (λ (z : ℕ). z ∷ ks) q))
+    (λ (e : member r ks ≡ true).
+    let l : k < r = all-member (λ x. k < x) ks r (h .0) e in
+    rw (lt-ltb k r l, le-ltb r k (omega arith)) (ap (λ (zs : List ℕ). k ∷ zs) (rising-split ks r (h .1) e)))
+    (or-true-cases (eqb r k) (member r ks) m)
