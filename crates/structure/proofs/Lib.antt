@@ -3,3 +3,6 @@ pub mod Outranking
 pub mod Shape
 pub mod Subtrees
 pub mod Prune
+pub mod Fold
+pub mod Within
+pub mod Ranks

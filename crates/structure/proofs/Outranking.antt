@@ -13,7 +13,7 @@ use Rattle.treap.specs.Treap.{outranks}
 
 module _ (p : ℕ → ℕ) where
   -- what the test says
-  pub Outranks : ℕ → ℕ → Type 0
+  unfoldable pub Outranks : ℕ → ℕ → Type 0
   Outranks a b = (p b < p a) ⊎ ((p a ≡ p b) × (a < b))
 
   pub outranks-says : (a b : ℕ) → outranks p a b ≡ true → Outranks a b

@@ -68,6 +68,18 @@ module _ (α : ℕ) where
       (all-append P (keys (prune l)) (k ∷ keys (prune r)) (all-prune P l (all-append-left P (keys l) (k ∷ keys r) h)) (right .0, all-prune P r (right .1)))
       tt
 
+  pub all-led : (P : ℕ → Type 0) (t : Tree) (i : ℕ) → All P (keys t) → All P (keys (levelTree t i))
+  all-led P t zero h = h
+  all-led P t (suc i) h = all-lead (levelTree t i) (all-led P t i h)
+    where
+      all-lead : (u : Tree) → All P (keys u) → All P (keys (lead u))
+      all-lead leaf a = tt
+      all-lead (node l k r) a =
+          let right = all-append-right P (keys l) (k ∷ keys r) a in
+          by-test (ltb 1 (size (node l k r)))
+          (λ e. rw e (all-append P (keys (prune l)) (k ∷ keys (prune r)) (all-prune P l (all-append-left P (keys l) (k ∷ keys r) a)) (right .0, all-prune P r (right .1))))
+          (λ e. rw e tt)
+
   -- ---- the keys of a pruned tree are those whose subtree is large enough
   big : Tree → ℕ → Bool
   big t v = leb α (size (subtree v t))
