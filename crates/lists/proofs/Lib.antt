@@ -5,3 +5,4 @@ pub mod Membership
 pub mod Pairwise
 pub mod Rising
 pub mod Sorting
+pub mod Replaced

@@ -9,7 +9,7 @@ use lib.Dec.{eqb}
 use borrow.Author.Tests.{eqb-true}
 use Rattle.lists.specs.Lists.{consIf, keep, All, Pairwise, member}
 use Rattle.lists.proofs.Tests.{true-or-false, or-true-cases}
-use Rattle.lists.proofs.Keep.{all-map, all-append, all-append-left, all-append-right, all-keep}
+use Rattle.lists.proofs.Keep.{all-map, all-both, all-append, all-append-left, all-append-right, all-keep}
 use Rattle.lists.proofs.Membership.{all-member, all-of-members}
 
 module _ {A : Type 0} (R : A → A → Type 0) where
@@ -41,6 +41,13 @@ module _ {A : Type 0} (R : A → A → Type 0) where
   pub pairwise-keep : (f : A → Bool) (xs : List A) → Pairwise R xs → Pairwise R (keep f xs)
   pairwise-keep f [] h = tt
   pairwise-keep f (x ∷ xs) h = pairwise-consIf (f x) x (keep f xs) (all-keep (R x) f xs (h .0)) (pairwise-keep f xs (h .1))
+
+-- a relation that follows from another between elements with a property
+pub pairwise-map : {A : Type 0} (P : A → Type 0) (R S : A → A → Type 0) → ((x y : A) → P x → P y → R x y → S x y)
+    → (xs : List A) → All P xs → Pairwise R xs → Pairwise S xs
+pairwise-map P R S f [] a h = tt
+pairwise-map P R S f (x ∷ xs) a h =
+    (all-map (λ y. P y × R x y) (S x) (λ y q. f x y (a .0) (q .0) (q .1)) xs (all-both P (R x) xs (a .1) (h .0)), pairwise-map P R S f xs (a .1) (h .1))
 
 module _ (R : ℕ → ℕ → Type 0) (one-way : (x y : ℕ) → R x y → R y x → ⊥) where
   -- two heads, each in the other's list, are equal

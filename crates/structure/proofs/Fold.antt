@@ -221,3 +221,18 @@ module _ (α : ℕ) where
       by-test (ltb 0 (size l + size r))
       (λ e. rw e (omega (arith, standing-rank-size l, standing-rank-size r)))
       (λ e. rw e (omega arith))
+
+  -- ---- ranks fall from a tree to its subtrees, and strictly from the root
+  pub subtree-rank : (v : ℕ) (t : Tree) → standing (subtree v t) .rank ≤ standing t .rank
+  subtree-rank v leaf = omega arith
+  subtree-rank v (node l k r) =
+      let low = raise-rank-low (standing l) (standing r) in
+      let a = subtree-rank v l in
+      let b = subtree-rank v r in
+      subtree-cases (λ s. standing s .rank ≤ standing (node l k r) .rank) v l k r (omega arith) (omega arith) (omega arith)
+
+  pub root-rank-left : (l : Tree) (k : ℕ) (r : Tree) → 0 < size l → standing l .rank < rootStanding (node l k r) .rank
+  root-rank-left l k r h = rw (lt-ltb 0 (size l + size r) (omega arith)) (omega arith)
+
+  pub root-rank-right : (l : Tree) (k : ℕ) (r : Tree) → 0 < size r → standing r .rank < rootStanding (node l k r) .rank
+  root-rank-right l k r h = rw (lt-ltb 0 (size l + size r) (omega arith)) (omega arith)

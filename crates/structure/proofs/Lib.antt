@@ -6,3 +6,5 @@ pub mod Prune
 pub mod Fold
 pub mod Within
 pub mod Ranks
+pub mod Paths
+pub mod Leaders

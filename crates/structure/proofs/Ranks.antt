@@ -13,15 +13,16 @@ use Rattle.lists.specs.Lists.{keep, member, largest, All, Rising}
 use Rattle.lists.proofs.Tests.{Compared, compared, by-test, true-or-false}
 use Rattle.lists.proofs.Tests.Compared.{less, same, more}
 use Rattle.lists.proofs.Keep.{keep-all}
-use Rattle.lists.proofs.Membership.{eqb-same, all-of-members, member-keep, no-member, largest-is}
+use Rattle.lists.proofs.Membership.{eqb-same, all-member, all-of-members, member-keep, no-member, largest-is}
 use Rattle.treap.specs.Treap.{Tree, keys, rootKey, subtree, treap}
 use Rattle.treap.specs.Treap.Tree.{leaf, node}
 use Rattle.treap.specs.Levels.{level, rank, count}
 use Rattle.structure.proofs.Shape.{size, length-keys, keys-root, Good, lesser-below, greater-above, treap-keys, treap-good}
-use Rattle.structure.proofs.Subtrees.{subtree-root, subtree-left, subtree-right, subtree-cases, size-subtree, all-subtree, member-left, member-right}
+use Rattle.structure.proofs.Subtrees.{inside, some-key, subtree-root, subtree-left, subtree-right, subtree-cases, size-subtree, all-subtree, member-left, member-right}
 use Rattle.structure.proofs.Prune.{pruned, lead, levelTree, all-led, level-is-led}
-use Rattle.structure.proofs.Fold.{Standing, standing, rootStanding, raise, Over, pruned-leaf, pruned-over, levelTree-over, Stands, standing-stands, outlasts, pruned-away, standing-rank-size, root-rank-size}
+use Rattle.structure.proofs.Fold.{Standing, standing, rootStanding, raise, Over, pruned-leaf, pruned-over, levelTree-over, Stands, standing-stands, outlasts, pruned-away, standing-rank-size, root-rank-size, subtree-rank, root-rank-left, root-rank-right}
 use Rattle.structure.proofs.Within.{subtree-of-key, within, within-left, within-right, within-pruned}
+use Rattle.structure.proofs.Paths.{subtree-below, not-root-below}
 
 module _ (α : ℕ) where
   -- The standing of a key in the whole tree.
@@ -200,6 +201,38 @@ module _ (α : ℕ) where
             (ap length (keep-all (λ u. member u (keys t)) (keys (levelTree α t (rootStanding α t .rank))) (all-led α (λ u. member u (keys t) ≡ true) t (rootStanding α t .rank) (all-of-members (λ u. member u (keys t) ≡ true) (keys t) (λ x i. i))))
             ∙ length-keys (levelTree α t (rootStanding α t .rank)) ∙ root-count l k r)
 
+    -- ---- ranks fall from a key to those in its subtree, and strictly from the root
+    below-root : (l : Tree) (k : ℕ) (r : Tree) (v : ℕ) → Good p (node l k r) → member v (keys (node l k r)) ≡ true → v ≢ k
+        → standing α (subtree v (node l k r)) .rank < rootStanding α (node l k r) .rank
+    below-root l k r v g m d = go (compared v k)
+      where
+        go : Compared v k → standing α (subtree v (node l k r)) .rank < rootStanding α (node l k r) .rank
+        go (less e f h q) =
+            let i = some-key l v (sym (member-left v k (keys l) (keys r) q (greater-above p k (keys r) (g .1))) ∙ m) in
+            rw (subtree-left l k r v q) (omega (arith, subtree-rank α v l, root-rank-left α l k r i))
+        go (same e f h q) = absurd (d q)
+        go (more e f h q) =
+            let i = some-key r v (sym (member-right v k (keys l) (keys r) q (lesser-below p k (keys l) (g .0))) ∙ m) in
+            rw (subtree-right l k r v q) (omega (arith, subtree-rank α v r, root-rank-right α l k r i))
+
+    in-tree-root-highest : (t : Tree) (v : ℕ) → Good p t → member v (keys t) ≡ true → v ≢ rootKey t → standingIn t v .rank < standingIn t (rootKey t) .rank
+    in-tree-root-highest leaf v g m d = absurd (true-or-false false m refl)
+    in-tree-root-highest (node l k r) v g m d = rw (standing-root l k r, standing-other (node l k r) v d) (below-root l k r v g m d)
+
+    in-tree-falls : (t : Tree) (u v : ℕ) → Good p t → member u (keys t) ≡ true → member v (keys (subtree u t)) ≡ true → standingIn t v .rank ≤ standingIn t u .rank
+    in-tree-falls t u v g m i =
+        by-test (eqb u (rootKey t))
+        (λ e.
+        let q = eqb-true u (rootKey t) e in
+        by-test (eqb v (rootKey t))
+        (λ f. subst (λ (z : ℕ). standingIn t v .rank ≤ standingIn t z .rank) (eqb-true v (rootKey t) f ∙ sym q) (omega arith))
+        (λ f.
+        let j = inside t u v i in
+        subst (λ (z : ℕ). standingIn t v .rank ≤ standingIn t z .rank) (sym q) (omega (arith, in-tree-root-highest t v g j (eqb-false v (rootKey t) f)))))
+        (λ e.
+        let d = eqb-false u (rootKey t) e in
+        rw (standing-other t u d, standing-other t v (not-root-below p t u v g d i), subtree-below p t u v g i) (subtree-rank α v (subtree u t)))
+
     -- ---- the theorems, over the definitions
     module _ (ks : List ℕ) (rising : Rising ks) where
       key-in-treap : (v : ℕ) → member v ks ≡ true → member v (keys (treap p ks)) ≡ true
@@ -229,3 +262,11 @@ module _ (α : ℕ) where
           ap (λ (n : ℕ). length (keep (λ u. member u (keys (subtree v (treap p ks)))) (level α p ks n))) (rank-is v m)
           ∙ ap (λ (xs : List ℕ). length (keep (λ u. member u (keys (subtree v (treap p ks)))) xs)) (level-is-led α p ks rising (standingIn (treap p ks) v .rank))
           ∙ in-tree-count (treap p ks) v (treap-good p ks rising) (key-in-treap v m)
+
+      -- no key in u's subtree has a higher rank than u
+      pub rank-falls : (u v : ℕ) → member u ks ≡ true → member v ks ≡ true → member v (keys (subtree u (treap p ks))) ≡ true → rank α p ks v ≤ rank α p ks u
+      rank-falls u v m n i = rw (rank-is u m, rank-is v n) (in-tree-falls (treap p ks) u v (treap-good p ks rising) (key-in-treap u m) i)
+
+      -- every other key has a lower rank than the root
+      pub root-rank-highest : (v : ℕ) → member v ks ≡ true → v ≢ rootKey (treap p ks) → member (rootKey (treap p ks)) ks ≡ true → rank α p ks v < rank α p ks (rootKey (treap p ks))
+      root-rank-highest v m d n = rw (rank-is v m, rank-is (rootKey (treap p ks)) n) (in-tree-root-highest (treap p ks) v (treap-good p ks rising) (key-in-treap v m) d)

@@ -8,12 +8,12 @@ use native.Mathlib.Omega.{arith}
 use lib.Dec.{eqb, ltb}
 use borrow.Author.Tests.{lt-ltb, le-ltb, ne-eqb}
 use Rattle.lists.specs.Lists.{member, All}
-use Rattle.lists.proofs.Tests.{by-test, or-both-false}
+use Rattle.lists.proofs.Tests.{by-test, true-or-false}
 use Rattle.lists.proofs.Keep.{all-map, all-append-left, all-append-right}
-use Rattle.lists.proofs.Membership.{eqb-same, member-append, not-member}
+use Rattle.lists.proofs.Membership.{eqb-same, all-member, all-of-members, member-append, not-member}
 use Rattle.treap.specs.Treap.{Tree, keys, subtree, path}
 use Rattle.treap.specs.Treap.Tree.{leaf, node}
-use Rattle.structure.proofs.Shape.{size}
+use Rattle.structure.proofs.Shape.{size, Good}
 
 module _ (l : Tree) (k : ℕ) (r : Tree) where
   pub subtree-root : subtree k (node l k r) ≡ node l k r
@@ -53,6 +53,21 @@ all-subtree P v (node l k r) h =
     subtree-cases (λ s. All P (keys s)) v l k r h
     (all-subtree P v l (all-append-left P (keys l) (k ∷ keys r) h))
     (all-subtree P v r (all-append-right P (keys l) (k ∷ keys r) h .1))
+
+pub inside : (t : Tree) (u v : ℕ) → member v (keys (subtree u t)) ≡ true → member v (keys t) ≡ true
+inside t u v m =
+    all-member (λ x. member x (keys t) ≡ true) (keys (subtree u t)) v
+    (all-subtree (λ x. member x (keys t) ≡ true) u t (all-of-members (λ x. member x (keys t) ≡ true) (keys t) (λ x i. i))) m
+
+-- a subtree of a heap-ordered search tree is one
+pub good-subtree : (p : ℕ → ℕ) (v : ℕ) (t : Tree) → Good p t → Good p (subtree v t)
+good-subtree p v leaf g = tt
+good-subtree p v (node l k r) g = subtree-cases (Good p) v l k r g (good-subtree p v l (g .2)) (good-subtree p v r (g .3))
+
+-- a tree that has a key has a size
+pub some-key : (t : Tree) (v : ℕ) → member v (keys t) ≡ true → 0 < size t
+some-key leaf v m = absurd (true-or-false false m refl)
+some-key (node l k r) v m = omega arith
 
 -- a key left of k among keys that k separates, and a key right of it
 pub member-left : (v k : ℕ) (xs ys : List ℕ) → v < k → All (λ y. k < y) ys → member v (xs ++ k ∷ ys) ≡ member v xs

@@ -73,3 +73,10 @@ module _ (p : ℕ → ℕ) where
   -- No branch is deeper than there are keys.
   unfoldable pub treap : List ℕ → Tree
   treap ks = treapTo (length ks) ks
+
+  -- A key's links, "Links are keys": the roots of the subtrees left and right of it; zero where there is none.
+  unfoldable pub leftLink : List ℕ → ℕ → ℕ
+  leftLink ks v = rootKey (leftOf (subtree v (treap ks)))
+
+  unfoldable pub rightLink : List ℕ → ℕ → ℕ
+  rightLink ks v = rootKey (rightOf (subtree v (treap ks)))

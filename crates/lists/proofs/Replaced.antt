@@ -1,0 +1,26 @@
+-- A list whose first entries are replaced, one by one, by a function of another list's entries.
+-- Assumes nothing.
+use mathlib.Core.Path.{_≡_, refl, ap}
+use mathlib.Core.List.{List, [], _∷_, _++_, map}
+use Prim.Native.Nat.{ℕ, zero, suc, _+_, _<_}
+use native.Mathlib.Nat.{not-suc-le-zero, le-of-suc-le-suc}
+use native.Mathlib.Numerals.{add-one}
+use lib.ListN.{length, set, getD, take, drop}
+
+module _ (f : ℕ → ℕ) where
+  -- `before` with its first `count` entries replaced by `f` of those of `source`.
+  abbrev pub replaced : List ℕ → List ℕ → ℕ → List ℕ
+  replaced source before count = map f (take count source) ++ drop count before
+
+  replaced-suc : (source before : List ℕ) (i : ℕ) → i < length source → i < length before
+      → set (replaced source before i) i (f (getD source i 0)) ≡ replaced source before (suc i)
+  replaced-suc [] before i here there = absurd (not-suc-le-zero here)
+  replaced-suc (x ∷ source) [] i here there = absurd (not-suc-le-zero there)
+  replaced-suc (x ∷ source) (y ∷ before) zero here there = refl
+  replaced-suc (x ∷ source) (y ∷ before) (suc i) here there =
+      ap (λ (entries : List ℕ). f x ∷ entries)
+      (replaced-suc source before i (le-of-suc-le-suc here) (le-of-suc-le-suc there))
+
+  pub replaced-next : (source before : List ℕ) (i : ℕ) → i < length source → i < length before
+      → set (replaced source before i) i (f (getD source i 0)) ≡ replaced source before (i + 1)
+  replaced-next source before i here there = rw add-one (replaced-suc source before i here there)

@@ -1,0 +1,2 @@
+-- The definitions that the contracts of `priority` cite.
+pub mod Priority

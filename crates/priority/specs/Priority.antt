@@ -1,0 +1,69 @@
+-- Priorities and homes of keys: the definitions of document 01, sections "Priority" and "The table's words".
+-- Assumes nothing.
+use mathlib.Core.Path.{_≡_}
+use mathlib.Core.List.{List, map, _++_}
+use Prim.Native.Nat.{ℕ, zero, suc, _+_, _*_, _/_, _%_, _^_, _<_}
+use lib.Bits.{bitXor}
+use lib.ListN.{length, drop, getD}
+
+-- "Constants E[0] to E[2047]": how many there are.
+abbrev pub constantCount : ℕ
+constantCount = 2048
+
+-- E[0], which is also what each step adds.
+abbrev pub increment : ℕ
+increment = 1442695040888963407
+
+-- What each step multiplies by.
+abbrev pub multiplier : ℕ
+multiplier = 6364136223846793005
+
+-- "each next is 6364136223846793005 times the one before, plus 1442695040888963407, modulo 2^64"
+abbrev pub constantAfter : ℕ → ℕ
+constantAfter constant = (multiplier * constant + increment) % 2 ^ 64
+
+-- "E[0] = 1442695040888963407, and each next is" the constant after "the one before": E[index].
+unfoldable pub constantAt : ℕ → ℕ
+constantAt zero = increment
+constantAt (suc index) = constantAfter (constantAt index)
+
+-- The table has E[index] at each index of a constant.
+unfoldable pub HoldsConstants : List ℕ → Type 0
+HoldsConstants table = (index : ℕ) → index < constantCount → getD table index 0 ≡ constantAt index
+
+-- How many bytes a key has.
+abbrev pub keyBytes : ℕ
+keyBytes = 8
+
+-- How many values a byte has.
+abbrev pub byteValues : ℕ
+byteValues = 256
+
+-- "byte j of k", "byte 0 the lowest"
+abbrev pub byteAt : ℕ → ℕ → ℕ
+byteAt k j = k / byteValues ^ j % byteValues
+
+-- "E[256·j + byte j of k]"
+abbrev pub term : ℕ → ℕ → ℕ
+term k j = constantAt (byteValues * j + byteAt k j)
+
+-- The exclusive or of these terms for every j below a count.
+unfoldable pub xorOfTerms : ℕ → ℕ → ℕ
+xorOfTerms k zero = 0
+xorOfTerms k (suc j) = bitXor (xorOfTerms k j) (term k j)
+
+-- "The priority P(k) is the exclusive or of E[256·j + byte j of k] for j = 0 to 7"
+unfoldable pub priorityOf : ℕ → ℕ
+priorityOf k = xorOfTerms k keyBytes
+
+-- `words` with its first entries replaced by the priorities of `keys`, in their order.
+abbrev pub prioritiesOver : List ℕ → List ℕ → List ℕ
+prioritiesOver keys words = map priorityOf keys ++ drop (length keys) words
+
+-- What a priority is divided by on the way to a home.
+abbrev pub homeDivisor : ℕ
+homeDivisor = 65536
+
+-- "home(k) = floor(P(k) / 65,536) mod M", for a priority P(k) and M slots.
+abbrev pub homeOf : ℕ → ℕ → ℕ
+homeOf priority slots = priority / homeDivisor % slots

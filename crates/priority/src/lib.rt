@@ -1,0 +1,77 @@
+// The priority and the home of a key, as document 01 defines them in "Priority" and "The table's words".
+// Assumes nothing.
+ghost use mathlib.Core.Path.{_≡_};
+ghost use Prim.Native.Nat.{_<_, _≤_};
+ghost use lib.ListN.{length};
+ghost use Rattle.priority.specs.Priority.{HoldsConstants, priorityOf, prioritiesOver, homeOf};
+
+mod constants;
+
+use constants::CONSTANT_COUNT;
+use constants::CONSTANTS;
+
+const KEY_BYTES: u64 = 8;
+
+const BYTE_VALUES: u64 = 256;
+
+const HOME_DIVISOR: u64 = 65536;
+
+// The table of the constants. A call stores all of them, so it is made once and lent where there are many keys.
+fn constant_table() -> [u64; CONSTANT_COUNT]
+    ensures { λ r. ⌜ HoldsConstants r ⌝ }
+{
+    CONSTANTS
+}
+
+// The priority of `key`: the exclusive or of one constant for each of its bytes, the lowest first.
+fn priority_from(constants: &[u64; CONSTANT_COUNT], key: u64) -> u64
+    requires { ⌜ HoldsConstants (now constants) ⌝ }
+    ensures { λ r. ⌜ r ≡ priorityOf key ⌝ }
+{
+    let mut joined = 0;
+    let mut rest = key;
+    for position in 0..KEY_BYTES {
+        let index = (BYTE_VALUES * position + rest % BYTE_VALUES) as usize;
+        joined ^= constants[index];
+        rest /= BYTE_VALUES;
+    }
+    joined
+}
+
+// Write the priorities of `keys`, in their order, at the start of `output`.
+fn priorities_from(constants: &[u64; CONSTANT_COUNT], keys: &[u64], output: &mut [u64])
+    requires { ⌜ HoldsConstants (now constants) ⌝ }
+    requires { ⌜ length (now keys) ≤ length (now output) ⌝ }
+    ensures { λ _. ⌜ now (output .exit) ≡ prioritiesOver (now (keys .entry)) (now (output .entry)) ⌝ }
+{
+    for i in 0..keys.len() {
+        output[i] = priority_from(constants, keys[i]);
+    }
+}
+
+// The priority of `key`. It makes the table of the constants anew: for many keys, call `priorities`.
+pub fn priority(key: u64) -> u64
+    ensures { λ r. ⌜ r ≡ priorityOf key ⌝ }
+{
+    let constants = constant_table();
+    priority_from(&constants, key)
+}
+
+// Write the priorities of `keys`, in their order, at the start of `output`.
+// Internal to this library's crates: their outputs have room for every key.
+pub fn priorities(keys: &[u64], output: &mut [u64])
+    requires { ⌜ length (now keys) ≤ length (now output) ⌝ }
+    ensures { λ _. ⌜ now (output .exit) ≡ prioritiesOver (now (keys .entry)) (now (output .entry)) ⌝ }
+{
+    let constants = constant_table();
+    priorities_from(&constants, keys, output)
+}
+
+// The home, in a table of `slots` slots, of a key with this priority.
+// Internal to this library's crates: their tables have at least one slot.
+pub fn home(priority: u64, slots: u64) -> u64
+    requires { ⌜ 0 < slots ⌝ }
+    ensures { λ r. ⌜ r ≡ homeOf priority slots ⌝ }
+{
+    priority / HOME_DIVISOR % slots
+}
