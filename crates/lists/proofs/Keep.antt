@@ -1,7 +1,7 @@
 -- Laws of `keep`, the filter by a Bool test, and of `All`. Assumes nothing.
 use mathlib.Core.Bool.{Bool, true, false, _||_, _&&_, not}
 use mathlib.Core.List.{List, [], _∷_, _++_, map}
-use mathlib.Core.Path.{_≡_, refl, sym, ap, ap₂, _∙_}
+use mathlib.Core.Path.{_≡_, refl, sym, ap, ap₂, _∙_, subst}
 use Prim.Native.Nat.{ℕ, suc, _+_, _≤_, _<_}
 use native.Mathlib.Omega.{arith}
 use lib.ListN.{length}
@@ -71,6 +71,16 @@ module _ {A : Type 0} where
   keep-same f g [] h = refl
   keep-same f g (x ∷ xs) h = ap₂ (λ b l. consIf b x l) (h .0) (keep-same f g xs (h .1))
 
+  -- a test that passes only where another does may be made after it
+  pub keep-after : (f g : A → Bool) (xs : List A) → All (λ x. f x ≡ true → g x ≡ true) xs → keep f (keep g xs) ≡ keep f xs
+  keep-after f g [] h = refl
+  keep-after f g (x ∷ xs) h =
+      by-test (g x)
+      (λ e. rw e (ap (consIf (f x) x) (keep-after f g xs (h .1))))
+      (λ e.
+      let none : f x ≡ false = by-test (f x) (λ t. absurd (true-or-false (g x) (h .0 t) e)) (λ t. t) in
+      rw (e, none) (keep-after f g xs (h .1)))
+
   length-consIf : (b : Bool) (x : A) (xs : List A) → length (consIf b x xs) ≤ suc (length xs)
   length-consIf true x xs = omega arith
   length-consIf false x xs = omega arith
@@ -78,6 +88,48 @@ module _ {A : Type 0} where
   pub length-keep : (f : A → Bool) (xs : List A) → length (keep f xs) ≤ length xs
   length-keep f [] = omega arith
   length-keep f (x ∷ xs) = omega (arith, length-consIf (f x) x (keep f xs), length-keep f xs)
+
+  -- a test that passes only where another does keeps no more
+  pub length-keep-le : (f g : A → Bool) (xs : List A) → All (λ x. f x ≡ true → g x ≡ true) xs → length (keep f xs) ≤ length (keep g xs)
+  length-keep-le f g xs h = subst (λ (ys : List A). length ys ≤ length (keep g xs)) (keep-after f g xs h) (length-keep f (keep g xs))
+
+  -- either of two tests keeps no more than both of them apart
+  pub length-keep-or : (f g : A → Bool) (xs : List A) → length (keep (λ x. f x || g x) xs) ≤ length (keep f xs) + length (keep g xs)
+  length-keep-or f g [] = omega arith
+  length-keep-or f g (x ∷ xs) =
+      let ih = length-keep-or f g xs in
+      by-test (f x)
+      (λ e. by-test (g x) (λ i. rw (e, i) (omega arith)) (λ i. rw (e, i) (omega arith)))
+      (λ e. by-test (g x) (λ i. rw (e, i) (omega arith)) (λ i. rw (e, i) (omega arith)))
+
+  -- and as much where no element passes both
+  pub length-keep-apart : (f g : A → Bool) (xs : List A) → All (λ x. f x ≡ true → g x ≡ false) xs
+      → length (keep (λ x. f x || g x) xs) ≡ length (keep f xs) + length (keep g xs)
+  length-keep-apart f g [] h = refl
+  length-keep-apart f g (x ∷ xs) h =
+      let ih = length-keep-apart f g xs (h .1) in
+      by-test (f x)
+      (λ e. rw (e, h .0 e) (omega arith))
+      (λ e. by-test (g x) (λ i. rw (e, i) (omega arith)) (λ i. rw (e, i) (omega arith)))
+
+  -- what is kept first was in the list and passes
+  pub some-kept : (f : A → Bool) (P : A → Type 0) (xs : List A) → All P xs → 0 < length (keep f xs) → (x : A) × P x × (f x ≡ true)
+  some-kept f P [] a h = absurd (omega arith)
+  some-kept f P (x ∷ xs) a h =
+      by-test (f x)
+      (λ e. (x, a .0, e))
+      (λ e. some-kept f P xs (a .1) (rw e at h))
+
+  -- where one element alone is kept, every element that passes is that one
+  pub keep-only : (f : A → Bool) (c : A) (xs : List A) → keep f xs ≡ c ∷ [] → All (λ x. f x ≡ true → x ≡ c) xs
+  keep-only f c xs e = kept-all xs (subst (All (λ x. x ≡ c)) (sym e) (refl, tt))
+    where
+      kept-all : (ys : List A) → All (λ x. x ≡ c) (keep f ys) → All (λ x. f x ≡ true → x ≡ c) ys
+      kept-all [] h = tt
+      kept-all (y ∷ ys) h =
+          by-test (f y)
+          (λ t. let both : All (λ x. x ≡ c) (y ∷ keep f ys) = rw t at h in ((λ _. both .0), kept-all ys (both .1)))
+          (λ t. ((λ i. absurd (true-or-false (f y) i t)), kept-all ys (rw t at h)))
 
   -- ---- every
   pub every-when : (f : A → Bool) (xs : List A) → All (λ x. f x ≡ true) xs → every f xs ≡ true
@@ -87,3 +139,8 @@ module _ {A : Type 0} where
   pub every-says : (f : A → Bool) (xs : List A) → every f xs ≡ true → All (λ x. f x ≡ true) xs
   every-says f [] h = tt
   every-says f (x ∷ xs) h = (and-left (f x) (every f xs) h, every-says f xs (and-right (f x) (every f xs) h))
+
+-- functions that agree on the elements have the same map
+pub map-same : {A B : Type 0} (f g : A → B) (xs : List A) → All (λ x. f x ≡ g x) xs → map f xs ≡ map g xs
+map-same f g [] h = refl
+map-same {A} {B} f g (x ∷ xs) h = ap₂ (λ (y : B) (ys : List B). y ∷ ys) (h .0) (map-same f g xs (h .1))

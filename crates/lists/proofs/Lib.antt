@@ -6,3 +6,4 @@ pub mod Pairwise
 pub mod Rising
 pub mod Sorting
 pub mod Replaced
+pub mod FlatMap

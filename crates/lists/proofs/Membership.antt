@@ -65,6 +65,32 @@ member-keep f x (y ∷ ys) =
     ∙ ap₂ (λ a b. a || b) (test-same f x y) (member-keep f x ys)
     ∙ or-and (f x) (eqb x y) (member x ys)
 
+-- ---- some, and members of a map
+pub some-when : (f : ℕ → Bool) (xs : List ℕ) (y : ℕ) → member y xs ≡ true → f y ≡ true → some f xs ≡ true
+some-when f [] y m e = absurd (true-or-false false m refl)
+some-when f (x ∷ xs) y m e =
+    ⊎-elim (λ q. or-true-left (f x) (some f xs) (ap f (sym (eqb-true y x q)) ∙ e)) (λ q. or-true-right (f x) (some f xs) (some-when f xs y q e)) (or-true-cases (eqb y x) (member y xs) m)
+
+pub some-says : (f : ℕ → Bool) (xs : List ℕ) → some f xs ≡ true → (y : ℕ) × (member y xs ≡ true) × (f y ≡ true)
+some-says f [] e = absurd (true-or-false false e refl)
+some-says f (x ∷ xs) e =
+    ⊎-elim (λ q. (x, or-true-left (eqb x x) (member x xs) (eqb-same x), q))
+    (λ q. let (y, m, t) = some-says f xs q in (y, or-true-right (eqb y x) (member y xs) m, t))
+    (or-true-cases (f x) (some f xs) e)
+
+pub member-map : (g : ℕ → ℕ) (xs : List ℕ) (y : ℕ) → member y xs ≡ true → member (g y) (map g xs) ≡ true
+member-map g [] y m = m
+member-map g (x ∷ xs) y m =
+    ⊎-elim (λ q. or-true-left (eqb (g y) (g x)) (member (g y) (map g xs)) (eq-eqb (g y) (g x) (ap g (eqb-true y x q))))
+    (λ q. or-true-right (eqb (g y) (g x)) (member (g y) (map g xs)) (member-map g xs y q)) (or-true-cases (eqb y x) (member y xs) m)
+
+pub mapped-from : (g : ℕ → ℕ) (xs : List ℕ) (n : ℕ) → member n (map g xs) ≡ true → (y : ℕ) × (member y xs ≡ true) × (n ≡ g y)
+mapped-from g [] n m = absurd (true-or-false false m refl)
+mapped-from g (x ∷ xs) n m =
+    ⊎-elim (λ q. (x, or-true-left (eqb x x) (member x xs) (eqb-same x), eqb-true n (g x) q))
+    (λ q. let (y, i, e) = mapped-from g xs n q in (y, or-true-right (eqb y x) (member y xs) i, e))
+    (or-true-cases (eqb n (g x)) (member n (map g xs)) m)
+
 -- ---- first: what it finds, where one element passes
 pub first-at : (f : ℕ → Bool) (xs : List ℕ) (y : ℕ) (ys : List ℕ) → All (λ x. f x ≡ false) xs → f y ≡ true → first f (xs ++ y ∷ ys) ≡ y
 first-at f [] y ys h e = rw e

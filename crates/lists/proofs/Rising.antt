@@ -3,12 +3,13 @@ use mathlib.Core.Bool.{Bool, true, false, _||_, _&&_}
 use mathlib.Core.List.{List, [], _∷_, _++_, append-nil}
 use mathlib.Core.Logic.{⊎-elim}
 use mathlib.Core.Path.{_≡_, refl, sym, ap, ap₂, _∙_, subst}
-use Prim.Native.Nat.{ℕ, _<_}
+use Prim.Native.Nat.{ℕ, _<_, _≤_}
 use native.Mathlib.Omega.{arith}
 use lib.Dec.{eqb, ltb}
-use borrow.Author.Tests.{eqb-true, lt-ltb, le-ltb}
+use lib.ListN.{length}
+use borrow.Author.Tests.{eqb-true, ne-eqb, lt-ltb, le-ltb}
 use Rattle.lists.specs.Lists.{keep, All, member, Rising}
-use Rattle.lists.proofs.Tests.{true-or-false, or-true-cases}
+use Rattle.lists.proofs.Tests.{by-test, true-or-false, or-true-cases}
 use Rattle.lists.proofs.Keep.{all-map, keep-append, keep-all, keep-none}
 use Rattle.lists.proofs.Membership.{all-member}
 use Rattle.lists.proofs.Pairwise.{pairwise-join, pairwise-unique}
@@ -52,3 +53,13 @@ rising-split (k ∷ ks) r h m =
     let l : k < r = all-member (λ x. k < x) ks r (h .0) e in
     rw (lt-ltb k r l, le-ltb r k (omega arith)) (ap (λ (zs : List ℕ). k ∷ zs) (rising-split ks r (h .1) e)))
     (or-true-cases (eqb r k) (member r ks) m)
+
+-- a rising list has a number at most once
+pub rising-once : (vs : List ℕ) (z : ℕ) → Rising vs → length (keep (λ x. eqb x z) vs) ≤ 1
+rising-once [] z h = omega arith
+rising-once (v ∷ vs) z h =
+    by-test (eqb v z)
+    (λ e.
+    let q = eqb-true v z e in
+    rw (e, keep-none (λ x. eqb x z) vs (all-map (λ x. v < x) (λ x. eqb x z ≡ false) (λ x (l : v < x). ne-eqb x z (λ i. omega arith)) vs (h .0))) (omega arith))
+    (λ e. rw e (rising-once vs z (h .1)))

@@ -1,6 +1,6 @@
 -- Plain definitions on lists that the specifications of every layer share. Tests are Bools, so that they compute.
 -- Assumes nothing.
-use mathlib.Core.Bool.{Bool, true, false, cond, _||_, _&&_}
+use mathlib.Core.Bool.{Bool, true, false, cond, _||_, _&&_, not}
 use mathlib.Core.List.{List, [], _∷_}
 use Prim.Native.Nat.{ℕ, zero, suc, _<_}
 use lib.Dec.{eqb, ltb}
@@ -50,6 +50,11 @@ module _ {A : Type 0} where
 abbrev pub member : ℕ → List ℕ → Bool
 member x [] = false
 member x (y ∷ ys) = eqb x y || member x ys
+
+-- The different numbers of a list, each once.
+abbrev pub distinct : List ℕ → List ℕ
+distinct [] = []
+distinct (x ∷ xs) = consIf (not (member x xs)) x (distinct xs)
 
 -- The first number that passes the test; zero where none does.
 abbrev pub first : (ℕ → Bool) → List ℕ → ℕ

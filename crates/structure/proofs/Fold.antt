@@ -95,6 +95,14 @@ module _ (α : ℕ) where
       (λ e. inr (ap (lead α) (e .0), still-none a (e .1), still-none b (e .2)))
       (levelTree-over i l k r)
 
+  -- what is pruned away had fewer than α keys
+  pub pruned-away-small : (t : Tree) → 0 < α → size (prune α t) ≡ 0 → size t < α
+  pruned-away-small leaf h e = h
+  pruned-away-small (node l k r) h e =
+      by-test (leb α (size (node l k r)))
+      (λ q. let z = ap size (prune-big α l k r (leb-true α (size (node l k r)) q)) in absurd (omega arith))
+      (λ q. leb-false α (size (node l k r)) q)
+
   -- pruning more leaves no more
   pub pruned-falls : (t : Tree) (i d : ℕ) → size (pruned α (d + i) t) ≤ size (pruned α i t)
   pruned-falls t i zero = rw (zero-add i) (omega arith)

@@ -21,6 +21,10 @@ use Rattle.structure.proofs.Within.{subtree-of-key}
 use Rattle.structure.proofs.Ranks.{in-level-to-rank, rank-falls}
 use Rattle.structure.proofs.Paths.{above, left-member, right-member, path-in-tree, path-below}
 
+-- The keys of a list that have a higher rank than n.
+unfoldable pub higher : ℕ → (ℕ → ℕ) → List ℕ → ℕ → List ℕ → List ℕ
+higher α p ks n xs = keep (λ u. ltb n (rank α p ks u)) xs
+
 module _ (α : ℕ) (p : ℕ → ℕ) (wide : 2 ≤ α) (ks : List ℕ) (rising : Rising ks) where
   -- the keys of the treap are the keys
   pub treap-member : (v : ℕ) → member v (keys (treap p ks)) ≡ true → member v ks ≡ true
@@ -29,12 +33,8 @@ module _ (α : ℕ) (p : ℕ → ℕ) (wide : 2 ≤ α) (ks : List ℕ) (rising 
   pub member-treap : (v : ℕ) → member v ks ≡ true → member v (keys (treap p ks)) ≡ true
   member-treap v m = ap (member v) (treap-keys p ks rising) ∙ m
 
-  -- the keys on a path that have a higher rank than n
-  pub higher : ℕ → List ℕ → List ℕ
-  higher n xs = keep (λ u. ltb n (rank α p ks u)) xs
-
   -- leader(v) is the last key on v's path with a higher rank
-  pub leader-by-rank : (v : ℕ) → member v ks ≡ true → leader α p ks v ≡ last (higher (rank α p ks v) (path v (treap p ks)))
+  pub leader-by-rank : (v : ℕ) → member v ks ≡ true → leader α p ks v ≡ last (higher α p ks (rank α p ks v) (path v (treap p ks)))
   unfolding leader higher
   leader-by-rank v m =
       ap last
@@ -47,14 +47,14 @@ module _ (α : ℕ) (p : ℕ → ℕ) (wide : 2 ≤ α) (ks : List ℕ) (rising 
   Below u v = (member u ks ≡ true) × (member v ks ≡ true) × (rank α p ks v ≤ rank α p ks u) × (path u (treap p ks) ≡ above u (treap p ks) ++ (u ∷ [])) × (path v (treap p ks) ≡ above u (treap p ks) ++ (u ∷ v ∷ []))
 
   -- a key of a rank no higher than the bound at a path's end counts for nothing
-  higher-end : (n : ℕ) (xs : List ℕ) (v : ℕ) → rank α p ks v ≤ n → higher n (xs ++ (v ∷ [])) ≡ higher n xs
+  higher-end : (n : ℕ) (xs : List ℕ) (v : ℕ) → rank α p ks v ≤ n → higher α p ks n (xs ++ (v ∷ [])) ≡ higher α p ks n xs
   unfolding higher
   higher-end n xs v h =
       keep-append (λ u. ltb n (rank α p ks u)) xs (v ∷ [])
       ∙ ap (λ b. keep (λ u. ltb n (rank α p ks u)) xs ++ consIf b v []) (le-ltb n (rank α p ks v) h)
       ∙ append-nil (keep (λ u. ltb n (rank α p ks u)) xs)
 
-  higher-last : (n : ℕ) (xs : List ℕ) (u : ℕ) → ltb n (rank α p ks u) ≡ true → last (higher n (xs ++ (u ∷ []))) ≡ u
+  higher-last : (n : ℕ) (xs : List ℕ) (u : ℕ) → ltb n (rank α p ks u) ≡ true → last (higher α p ks n (xs ++ (u ∷ []))) ≡ u
   unfolding higher
   higher-last n xs u h =
       ap last (keep-append (λ x. ltb n (rank α p ks x)) xs (u ∷ []) ∙ ap (λ b. keep (λ x. ltb n (rank α p ks x)) xs ++ consIf b u []) h)
@@ -69,9 +69,9 @@ module _ (α : ℕ) (p : ℕ → ℕ) (wide : 2 ≤ α) (ks : List ℕ) (rising 
   leader-below u v b =
       let (m, n, falls, up, down) = b in
       let t = treap p ks in
-      let here : leader α p ks v ≡ last (higher (rank α p ks v) (above u t ++ (u ∷ []))) =
+      let here : leader α p ks v ≡ last (higher α p ks (rank α p ks v) (above u t ++ (u ∷ []))) =
       leader-by-rank v n
-      ∙ ap (λ (xs : List ℕ). last (higher (rank α p ks v) xs)) (down ∙ end-again (above u t) u v)
+      ∙ ap (λ (xs : List ℕ). last (higher α p ks (rank α p ks v) xs)) (down ∙ end-again (above u t) u v)
       ∙ ap last (higher-end (rank α p ks v) (above u t ++ (u ∷ [])) v (omega arith))
       in
       by-test (ltb (rank α p ks v) (rank α p ks u))
@@ -79,7 +79,7 @@ module _ (α : ℕ) (p : ℕ → ℕ) (wide : 2 ≤ α) (ks : List ℕ) (rising 
       (λ e.
       let same : rank α p ks v ≡ rank α p ks u = let h = ltb-false (rank α p ks v) (rank α p ks u) e in omega arith in
       rw e
-      (here ∙ ap (λ (i : ℕ). last (higher i (above u t ++ (u ∷ [])))) same ∙ ap (λ (xs : List ℕ). last (higher (rank α p ks u) xs)) (sym up) ∙ sym (leader-by-rank u m)))
+      (here ∙ ap (λ (i : ℕ). last (higher α p ks i (above u t ++ (u ∷ [])))) same ∙ ap (λ (xs : List ℕ). last (higher α p ks (rank α p ks u) xs)) (sym up) ∙ sym (leader-by-rank u m)))
 
   -- ---- the children in the treap hang directly below
   child-below : (u v : ℕ) (l r : Tree) → member u ks ≡ true → subtree u (treap p ks) ≡ node l u r → member v (keys (node l u r)) ≡ true
@@ -122,6 +122,6 @@ module _ (α : ℕ) (p : ℕ → ℕ) (wide : 2 ≤ α) (ks : List ℕ) (rising 
   unfolding higher
   leader-of-root l k r s =
       leader-by-rank k (treap-member k (ap (λ t. member k (keys t)) s ∙ keys-root l k r))
-      ∙ ap (λ t. last (higher (rank α p ks k) (path k t))) s
-      ∙ ap (λ (xs : List ℕ). last (higher (rank α p ks k) xs)) (path-root l k r)
+      ∙ ap (λ t. last (higher α p ks (rank α p ks k) (path k t))) s
+      ∙ ap (λ (xs : List ℕ). last (higher α p ks (rank α p ks k) xs)) (path-root l k r)
       ∙ ap last (higher-end (rank α p ks k) [] k (omega arith))

@@ -8,3 +8,9 @@ pub mod Within
 pub mod Ranks
 pub mod Paths
 pub mod Leaders
+pub mod Columns
+pub mod Ancestors
+pub mod Blocks
+pub mod BlockSizes
+pub mod BlockTree
+pub mod SearchPath

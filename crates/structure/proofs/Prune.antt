@@ -131,6 +131,10 @@ module _ (α : ℕ) where
         (all-prune (Lesser p k) l (g .0), all-prune (Greater p k) r (g .1), good-prune l (g .2), good-prune r (g .3))
         tt
 
+    pub good-pruned : (i : ℕ) (t : Tree) → Good p t → Good p (pruned i t)
+    good-pruned zero t g = g
+    good-pruned (suc i) t g = good-prune (pruned i t) (good-pruned i t g)
+
     -- ---- levels are led trees
     good-lead : (t : Tree) → Good p t → Good p (lead t)
     good-lead leaf g = tt

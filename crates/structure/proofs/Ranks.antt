@@ -10,18 +10,20 @@ use lib.Dec.{eqb, ltb, leb}
 use lib.ListN.{length}
 use borrow.Author.Tests.{leb-true, leb-false, lt-leb, le-leb, lt-ltb, le-ltb, ltb-true, ltb-false, ne-eqb, eqb-true, eqb-false}
 use Rattle.lists.specs.Lists.{keep, member, largest, All, Rising}
-use Rattle.lists.proofs.Tests.{Compared, compared, by-test, true-or-false}
+use Rattle.lists.proofs.Tests.{Compared, compared, by-test, true-or-false, and-left, and-right, and-both}
 use Rattle.lists.proofs.Tests.Compared.{less, same, more}
 use Rattle.lists.proofs.Keep.{keep-all}
+use Rattle.lists.proofs.Pairwise.{pairwise-keep}
+use Rattle.lists.proofs.Rising.{rising-unique}
 use Rattle.lists.proofs.Membership.{eqb-same, all-member, all-of-members, member-keep, no-member, largest-is}
 use Rattle.treap.specs.Treap.{Tree, keys, rootKey, subtree, treap}
 use Rattle.treap.specs.Treap.Tree.{leaf, node}
 use Rattle.treap.specs.Levels.{level, rank, count}
-use Rattle.structure.proofs.Shape.{size, length-keys, keys-root, Good, lesser-below, greater-above, treap-keys, treap-good}
+use Rattle.structure.proofs.Shape.{size, length-keys, keys-root, Good, good-rising, lesser-below, greater-above, treap-keys, treap-good}
 use Rattle.structure.proofs.Subtrees.{inside, some-key, subtree-root, subtree-left, subtree-right, subtree-cases, size-subtree, all-subtree, member-left, member-right}
-use Rattle.structure.proofs.Prune.{pruned, lead, levelTree, all-led, level-is-led}
+use Rattle.structure.proofs.Prune.{pruned, good-pruned, lead, levelTree, all-led, level-is-led}
 use Rattle.structure.proofs.Fold.{Standing, standing, rootStanding, raise, Over, pruned-leaf, pruned-over, levelTree-over, Stands, standing-stands, outlasts, pruned-away, standing-rank-size, root-rank-size, subtree-rank, root-rank-left, root-rank-right}
-use Rattle.structure.proofs.Within.{subtree-of-key, within, within-left, within-right, within-pruned}
+use Rattle.structure.proofs.Within.{subtree-of-key, all-pruned, within, within-left, within-right, within-pruned}
 use Rattle.structure.proofs.Paths.{subtree-below, not-root-below}
 
 module _ (α : ℕ) where
@@ -61,6 +63,25 @@ module _ (α : ℕ) where
         let here : f v ≡ true = ap (λ s. member v (keys s)) e ∙ keys-root a v b in
         sym (ap (λ c. c && member v xs) here) ∙ sym (member-keep f v xs) ∙ ap (member v) w
         ∙ subst (λ s. member v (keys (pruned α i s)) ≡ leb i (standing α s .rank)) (sym e) (root-in-pruned i a v b)
+
+    -- a key of a tree is left by i prunings exactly up to the rank of its subtree
+    in-pruned : (i : ℕ) (t : Tree) (v : ℕ) → Good p t → member v (keys t) ≡ true → member v (keys (pruned α i t)) ≡ leb i (standing α (subtree v t) .rank)
+    in-pruned i t v g m =
+        let (a, b, s) = subtree-of-key p t v g m in
+        through-part i (keys (pruned α i t)) v (subtree v t) a b s (within-pruned p α i t v g)
+
+    pub pruned-by-rank : (i : ℕ) (t : Tree) → Good p t → keep (λ v. leb i (standing α (subtree v t) .rank)) (keys t) ≡ keys (pruned α i t)
+    pruned-by-rank i t g =
+        let f : ℕ → Bool = λ v. leb i (standing α (subtree v t) .rank) in
+        rising-unique (keep f (keys t)) (keys (pruned α i t)) (pairwise-keep _<_ f (keys t) (good-rising p t g)) (good-rising p (pruned α i t) (good-pruned α p i t g))
+        (all-of-members (λ v. member v (keys (pruned α i t)) ≡ true) (keep f (keys t))
+        (λ v m.
+        let both = sym (member-keep f v (keys t)) ∙ m in
+        in-pruned i t v g (and-right (f v) (member v (keys t)) both) ∙ and-left (f v) (member v (keys t)) both))
+        (all-of-members (λ v. member v (keep f (keys t)) ≡ true) (keys (pruned α i t))
+        (λ v m.
+        let here = all-member (λ z. member z (keys t) ≡ true) (keys (pruned α i t)) v (all-pruned p α (λ z. member z (keys t) ≡ true) i t (all-of-members (λ z. member z (keys t) ≡ true) (keys t) (λ z j. j))) m in
+        member-keep f v (keys t) ∙ and-both (f v) (member v (keys t)) (sym (in-pruned i t v g here) ∙ m) here))
 
     -- ---- the root is in a level's tree exactly up to its own rank
     module _ (l : Tree) (k : ℕ) (r : Tree) where

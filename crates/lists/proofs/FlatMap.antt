@@ -1,0 +1,66 @@
+-- Laws of `flatMap` with `keep` and `All`, and of `fallingFrom`. Assumes nothing.
+use mathlib.Core.Bool.{Bool, true, false, cond, _||_, _&&_}
+use mathlib.Core.List.{List, [], _∷_, _++_, map, flatMap, append-nil}
+use mathlib.Core.Logic.{_⊎_, _≢_, inl, inr, ⊎-elim}
+use mathlib.Core.Path.{_≡_, refl, sym, ap, ap₂, _∙_, subst}
+use Prim.Native.Nat.{ℕ, zero, suc, _+_, _<_, _≤_}
+use native.Mathlib.Omega.{arith}
+use lib.Dec.{eqb}
+use borrow.Author.Tests.{eqb-true, eqb-false, ne-eqb}
+use Rattle.lists.specs.Lists.{consIf, keep, All, member, fallingFrom, Rising}
+use Rattle.lists.proofs.Tests.{by-test, true-or-false, or-true-cases}
+use Rattle.lists.proofs.Keep.{all-map, all-append, keep-append, keep-none}
+
+module _ {A B : Type 0} where
+  pub all-flatMap : (P : B → Type 0) (g : A → List B) (xs : List A) → All (λ x. All P (g x)) xs → All P (flatMap g xs)
+  unfolding flatMap
+  all-flatMap P g [] h = tt
+  all-flatMap P g (x ∷ xs) h = all-append P (g x) (flatMap g xs) (h .0) (all-flatMap P g xs (h .1))
+
+  pub keep-flatMap : (f : B → Bool) (g : A → List B) (xs : List A) → keep f (flatMap g xs) ≡ flatMap (λ x. keep f (g x)) xs
+  unfolding flatMap
+  keep-flatMap f g [] = refl
+  keep-flatMap f g (x ∷ xs) = keep-append f (g x) (flatMap g xs) ∙ ap (λ ys. keep f (g x) ++ ys) (keep-flatMap f g xs)
+
+  pub flatMap-same : (g h : A → List B) (xs : List A) → All (λ x. g x ≡ h x) xs → flatMap g xs ≡ flatMap h xs
+  unfolding flatMap
+  flatMap-same g h [] e = refl
+  flatMap-same g h (x ∷ xs) e = ap₂ (λ ys zs. ys ++ zs) (e .0) (flatMap-same g h xs (e .1))
+
+  pub all-mapped : (P : B → Type 0) (g : A → B) (xs : List A) → All (λ x. P (g x)) xs → All P (map g xs)
+  all-mapped P g [] h = tt
+  all-mapped P g (x ∷ xs) h = (h .0, all-mapped P g xs (h .1))
+
+pub falling-within : (n : ℕ) → All (λ i. (1 ≤ i) × (i ≤ n)) (fallingFrom n)
+falling-within zero = tt
+falling-within (suc n) = (omega arith, all-map (λ i. (1 ≤ i) × (i ≤ n)) (λ i. (1 ≤ i) × (i ≤ suc n)) (λ i h. omega arith) (fallingFrom n) (falling-within n))
+
+module _ {B : Type 0} (g : ℕ → List B) where
+  -- of the falling numbers below j none is j
+  pub flatMap-none : (j n : ℕ) → n < j → flatMap (λ i. cond (eqb j i) (g i) []) (fallingFrom n) ≡ []
+  unfolding flatMap
+  flatMap-none j zero h = refl
+  flatMap-none j (suc n) h = rw (ne-eqb j (suc n) (λ e. omega arith)) (flatMap-none j n (omega arith))
+
+  -- of the falling numbers from j or above one is j
+  pub flatMap-one : (j n : ℕ) → 1 ≤ j → j ≤ n → flatMap (λ i. cond (eqb j i) (g i) []) (fallingFrom n) ≡ g j
+  unfolding flatMap
+  flatMap-one j zero l h = absurd (omega arith)
+  flatMap-one j (suc n) l h =
+      by-test (eqb j (suc n))
+      (λ e. rw e (ap (λ ys. g (suc n) ++ ys) (flatMap-none j n (let q = eqb-true j (suc n) e in omega arith)) ∙ append-nil (g (suc n)) ∙ ap g (sym (eqb-true j (suc n) e))))
+      (λ e. let d : j ≢ suc n = eqb-false j (suc n) e in rw e (flatMap-one j n l (omega arith)))
+
+-- of what a rising list is mapped to, the test that passes at one number keeps that one
+pub keep-one : {B : Type 0} (f : B → Bool) (g : ℕ → B) (z : ℕ) (vs : List ℕ) → Rising vs → member z vs ≡ true → ((v : ℕ) → f (g v) ≡ eqb z v) → keep f (map g vs) ≡ g z ∷ []
+keep-one f g z [] s m t = absurd (true-or-false false m refl)
+keep-one {B} f g z (v ∷ vs) s m t =
+    by-test (eqb z v)
+    (λ e.
+    let q = eqb-true z v e in
+    rw (t v ∙ e)
+    (ap₂ (λ (b : B) (bs : List B). b ∷ bs) (ap g (sym q))
+    (keep-none f (map g vs) (all-mapped (λ b. f b ≡ false) g vs (all-map (λ w. v < w) (λ w. f (g w) ≡ false) (λ w (h : v < w). t w ∙ ne-eqb z w (λ i. omega arith)) vs (s .0))))))
+    (λ e.
+    rw (t v ∙ e)
+    (keep-one f g z vs (s .1) (⊎-elim (λ i. absurd (true-or-false (eqb z v) i e)) (λ i. i) (or-true-cases (eqb z v) (member z vs) m)) t))
