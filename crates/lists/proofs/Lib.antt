@@ -7,3 +7,5 @@ pub mod Rising
 pub mod Sorting
 pub mod Replaced
 pub mod FlatMap
+pub mod UpFrom
+pub mod Overwrite

@@ -91,22 +91,27 @@ mapped-from g (x ∷ xs) n m =
     (λ q. let (y, i, e) = mapped-from g xs n q in (y, or-true-right (eqb y x) (member y xs) i, e))
     (or-true-cases (eqb n (g x)) (member n (map g xs)) m)
 
--- ---- first: what it finds, where one element passes
-pub first-at : (f : ℕ → Bool) (xs : List ℕ) (y : ℕ) (ys : List ℕ) → All (λ x. f x ≡ false) xs → f y ≡ true → first f (xs ++ y ∷ ys) ≡ y
-first-at f [] y ys h e = rw e
-first-at f (x ∷ xs) y ys h e = rw (h .0) (first-at f xs y ys (h .1) e)
+-- ---- first: what it finds, where one element passes, and that it finds none where none does
+pub first-at : (d : ℕ) (f : ℕ → Bool) (xs : List ℕ) (y : ℕ) (ys : List ℕ) → All (λ x. f x ≡ false) xs → f y ≡ true → first d f (xs ++ y ∷ ys) ≡ y
+first-at d f [] y ys h e = rw e
+first-at d f (x ∷ xs) y ys h e = rw (h .0) (first-at d f xs y ys (h .1) e)
 
-pub first-passes : (f : ℕ → Bool) (xs : List ℕ) (y : ℕ) → member y xs ≡ true → f y ≡ true → (f (first f xs) ≡ true) × (member (first f xs) xs ≡ true)
-first-passes f [] y m e = absurd (true-or-false false m refl)
-first-passes f (x ∷ xs) y m e =
+pub first-none : (d : ℕ) (f : ℕ → Bool) (xs : List ℕ) → All (λ x. f x ≡ false) xs → first d f xs ≡ d
+first-none d f [] h = refl
+first-none d f (x ∷ xs) h = rw (h .0) (first-none d f xs (h .1))
+
+pub first-passes : (d : ℕ) (f : ℕ → Bool) (xs : List ℕ) (y : ℕ) → member y xs ≡ true → f y ≡ true
+    → (f (first d f xs) ≡ true) × (member (first d f xs) xs ≡ true)
+first-passes d f [] y m e = absurd (true-or-false false m refl)
+first-passes d f (x ∷ xs) y m e =
     by-test (f x)
     (λ t. rw t (t, or-true-left (eqb x x) (member x xs) (eqb-same x)))
     (λ t.
     let later : member y xs ≡ true =
     ⊎-elim (λ (q : eqb y x ≡ true). absurd (true-or-false (f y) e (ap f (eqb-true y x q) ∙ t))) (λ q. q) (or-true-cases (eqb y x) (member y xs) m)
     in
-    let found = first-passes f xs y later e in
-    rw t (found .0, or-true-right (eqb (first f xs) x) (member (first f xs) xs) (found .1)))
+    let found = first-passes d f xs y later e in
+    rw t (found .0, or-true-right (eqb (first d f xs) x) (member (first d f xs) xs) (found .1)))
 
 -- ---- last
 pub last-snoc : (xs : List ℕ) (y : ℕ) → last (xs ++ (y ∷ [])) ≡ y

@@ -1,9 +1,10 @@
 -- Plain definitions on lists that the specifications of every layer share. Tests are Bools, so that they compute.
 -- Assumes nothing.
 use mathlib.Core.Bool.{Bool, true, false, cond, _||_, _&&_, not}
-use mathlib.Core.List.{List, [], _∷_}
-use Prim.Native.Nat.{ℕ, zero, suc, _<_}
+use mathlib.Core.List.{List, [], _∷_, _++_}
+use Prim.Native.Nat.{ℕ, zero, suc, _+_, _<_}
 use lib.Dec.{eqb, ltb}
+use lib.ListN.{length, take, drop}
 
 module _ {A : Type 0} where
   -- `x` in front of `xs` where the test passed, else `xs` alone.
@@ -46,6 +47,10 @@ module _ {A : Type 0} where
   sortBy before [] = []
   sortBy before (x ∷ xs) = insertBy before x (sortBy before xs)
 
+  -- The list with the elements from index `at` on replaced by those of `new`.
+  unfoldable pub overwrite : List A → ℕ → List A → List A
+  overwrite old at new = take at old ++ (new ++ drop (at + length new) old)
+
 -- `x` is one of the numbers of the list.
 abbrev pub member : ℕ → List ℕ → Bool
 member x [] = false
@@ -56,10 +61,10 @@ abbrev pub distinct : List ℕ → List ℕ
 distinct [] = []
 distinct (x ∷ xs) = consIf (not (member x xs)) x (distinct xs)
 
--- The first number that passes the test; zero where none does.
-abbrev pub first : (ℕ → Bool) → List ℕ → ℕ
-first f [] = 0
-first f (x ∷ xs) = cond (f x) x (first f xs)
+-- The first number that passes the test; `none` where none does.
+abbrev pub first : ℕ → (ℕ → Bool) → List ℕ → ℕ
+first none f [] = none
+first none f (x ∷ xs) = cond (f x) x (first none f xs)
 
 -- The last number of the list; zero where it has none.
 abbrev pub last : List ℕ → ℕ

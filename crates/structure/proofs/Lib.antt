@@ -1,6 +1,7 @@
 -- The structure theorems of the treap, one subject a file. They need an order of at least 2 and rising keys, no more.
 pub mod Outranking
 pub mod Shape
+pub mod Split
 pub mod Subtrees
 pub mod Prune
 pub mod Fold

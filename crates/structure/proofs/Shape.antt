@@ -78,7 +78,7 @@ module _ (p : ℕ → ℕ) where
   pub top-of-good : (l : Tree) (k : ℕ) (r : Tree) → Good (node l k r) → top p (keys (node l k r)) ≡ k
   unfolding top
   top-of-good l k r g =
-      first-at (outranksRest p (keys (node l k r))) (keys l) k (keys r)
+      first-at 0 (outranksRest p (keys (node l k r))) (keys l) k (keys r)
       (all-map (Lesser k) (λ x. outranksRest p (keys (node l k r)) x ≡ false) (λ x q. outranked-does-not (keys (node l k r)) k x (keys-root l k r) q) (keys l) (g .0))
       (root-outranks l k r g)
 
@@ -145,14 +145,14 @@ module _ (p : ℕ → ℕ) where
   unfolding top outranksRest Tops
   top-member k ks =
       let (m, i, a) = some-top k ks in
-      first-passes (outranksRest p (k ∷ ks)) (k ∷ ks) m i (every-when (λ x. eqb x m || outranks p m x) (k ∷ ks) a) .1
+      first-passes 0 (outranksRest p (k ∷ ks)) (k ∷ ks) m i (every-when (λ x. eqb x m || outranks p m x) (k ∷ ks) a) .1
 
   pub top-outranks : (k : ℕ) (ks : List ℕ) → All (λ x. (eqb x (top p (k ∷ ks)) || outranks p (top p (k ∷ ks)) x) ≡ true) (k ∷ ks)
   unfolding top outranksRest Tops
   top-outranks k ks =
       let (m, i, a) = some-top k ks in
       every-says (λ x. eqb x (top p (k ∷ ks)) || outranks p (top p (k ∷ ks)) x) (k ∷ ks)
-      (first-passes (outranksRest p (k ∷ ks)) (k ∷ ks) m i (every-when (λ x. eqb x m || outranks p m x) (k ∷ ks) a) .0)
+      (first-passes 0 (outranksRest p (k ∷ ks)) (k ∷ ks) m i (every-when (λ x. eqb x m || outranks p m x) (k ∷ ks) a) .0)
 
   -- a kept key that differs from the root is outranked by it
   kept-outranked : (f : ℕ → Bool) (m : ℕ) (ks : List ℕ) → ((x : ℕ) → f x ≡ true → x ≢ m)

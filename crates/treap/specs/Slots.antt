@@ -11,9 +11,9 @@ use Rattle.treap.specs.Treap.{outranks}
 unfoldable pub probes : ℕ → ℕ → List ℕ
 probes many home = upFrom home (many - home) ++ upFrom 0 home
 
--- "The first empty slot at or above home, slot 0 following the last".
+-- "The first empty slot at or above home, slot 0 following the last"; the number of slots where none is empty.
 unfoldable pub firstEmpty : List ℕ → ℕ → ℕ
-firstEmpty slots home = first (λ i. eqb (getD slots i 0) 0) (probes (length slots) home)
+firstEmpty slots home = first (length slots) (λ i. eqb (getD slots i 0) 0) (probes (length slots) home)
 
 module _ (home : ℕ → ℕ) where
   -- Each key of the list in turn put into its first empty slot.

@@ -59,7 +59,7 @@ module _ (p : ℕ → ℕ) where
 
   -- "The root is the key that outranks the rest"; zero where there is no key.
   unfoldable pub top : List ℕ → ℕ
-  top ks = first (outranksRest ks) ks
+  top ks = first 0 (outranksRest ks) ks
 
   -- "The root is the key that outranks the rest; the lesser keys and the greater keys, as parts of the rising list,
   -- form its left and right subtrees by the same rule." The rule is applied at most `depth` keys deep.
