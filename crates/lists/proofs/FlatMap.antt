@@ -9,7 +9,7 @@ use lib.Dec.{eqb}
 use borrow.Author.Tests.{eqb-true, eqb-false, ne-eqb}
 use Rattle.lists.specs.Lists.{consIf, keep, All, member, fallingFrom, Rising}
 use Rattle.lists.proofs.Tests.{by-test, true-or-false, or-true-cases}
-use Rattle.lists.proofs.Keep.{all-map, all-append, keep-append, keep-none}
+use Rattle.lists.proofs.Keep.{all-map, all-mapped, all-append, keep-append, keep-none}
 
 module _ {A B : Type 0} where
   pub all-flatMap : (P : B → Type 0) (g : A → List B) (xs : List A) → All (λ x. All P (g x)) xs → All P (flatMap g xs)
@@ -26,10 +26,6 @@ module _ {A B : Type 0} where
   unfolding flatMap
   flatMap-same g h [] e = refl
   flatMap-same g h (x ∷ xs) e = ap₂ (λ ys zs. ys ++ zs) (e .0) (flatMap-same g h xs (e .1))
-
-  pub all-mapped : (P : B → Type 0) (g : A → B) (xs : List A) → All (λ x. P (g x)) xs → All P (map g xs)
-  all-mapped P g [] h = tt
-  all-mapped P g (x ∷ xs) h = (h .0, all-mapped P g xs (h .1))
 
 pub falling-within : (n : ℕ) → All (λ i. (1 ≤ i) × (i ≤ n)) (fallingFrom n)
 falling-within zero = tt

@@ -2,9 +2,9 @@
 use mathlib.Core.Bool.{Bool, true, false, _||_, _&&_, not}
 use mathlib.Core.List.{List, [], _∷_, _++_, map}
 use mathlib.Core.Path.{_≡_, refl, sym, ap, ap₂, _∙_, subst}
-use Prim.Native.Nat.{ℕ, suc, _+_, _≤_, _<_}
+use Prim.Native.Nat.{ℕ, zero, suc, _+_, _≤_, _<_}
 use native.Mathlib.Omega.{arith}
-use lib.ListN.{length}
+use lib.ListN.{length, getD}
 use Rattle.lists.specs.Lists.{consIf, keep, every, some, All}
 use Rattle.lists.proofs.Tests.{by-test, true-or-false, and-left, and-right, and-both}
 
@@ -144,3 +144,13 @@ module _ {A : Type 0} where
 pub map-same : {A B : Type 0} (f g : A → B) (xs : List A) → All (λ x. f x ≡ g x) xs → map f xs ≡ map g xs
 map-same f g [] h = refl
 map-same {A} {B} f g (x ∷ xs) h = ap₂ (λ (y : B) (ys : List B). y ∷ ys) (h .0) (map-same f g xs (h .1))
+
+pub all-mapped : {A B : Type 0} (P : B → Type 0) (g : A → B) (xs : List A) → All (λ x. P (g x)) xs → All P (map g xs)
+all-mapped P g [] h = tt
+all-mapped P g (x ∷ xs) h = (h .0, all-mapped P g xs (h .1))
+
+-- what holds of all elements holds at each index
+pub all-at : {A : Type 0} (P : A → Type 0) (xs : List A) (i : ℕ) (d : A) → All P xs → i < length xs → P (getD xs i d)
+all-at P [] i d h k = absurd (omega arith)
+all-at P (x ∷ xs) zero d h k = h .0
+all-at P (x ∷ xs) (suc i) d h k = all-at P xs i d (h .1) (omega arith)

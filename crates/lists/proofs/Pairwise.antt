@@ -1,7 +1,7 @@
 -- Lists whose elements stand pairwise in a relation: their parts, and that such a list of numbers is determined by its
 -- members where the relation goes one way only. Assumes nothing.
 use mathlib.Core.Bool.{Bool, true, false, _||_, _&&_}
-use mathlib.Core.List.{List, [], _∷_, _++_}
+use mathlib.Core.List.{List, [], _∷_, _++_, map}
 use mathlib.Core.Logic.{_⊎_, inl, inr, ⊎-elim}
 use mathlib.Core.Path.{_≡_, refl, sym, ap, ap₂, _∙_, subst}
 use Prim.Native.Nat.{ℕ}
@@ -9,7 +9,7 @@ use lib.Dec.{eqb}
 use borrow.Author.Tests.{eqb-true}
 use Rattle.lists.specs.Lists.{consIf, keep, All, Pairwise, member}
 use Rattle.lists.proofs.Tests.{true-or-false, or-true-cases}
-use Rattle.lists.proofs.Keep.{all-map, all-both, all-append, all-append-left, all-append-right, all-keep}
+use Rattle.lists.proofs.Keep.{all-map, all-mapped, all-both, all-append, all-append-left, all-append-right, all-keep}
 use Rattle.lists.proofs.Membership.{all-member, all-of-members}
 
 module _ {A : Type 0} (R : A → A → Type 0) where
@@ -48,6 +48,11 @@ pub pairwise-map : {A : Type 0} (P : A → Type 0) (R S : A → A → Type 0) �
 pairwise-map P R S f [] a h = tt
 pairwise-map P R S f (x ∷ xs) a h =
     (all-map (λ y. P y × R x y) (S x) (λ y q. f x y (a .0) (q .0) (q .1)) xs (all-both P (R x) xs (a .1) (h .0)), pairwise-map P R S f xs (a .1) (h .1))
+
+-- a relation between what the elements are mapped to
+pub pairwise-mapped : {A B : Type 0} (R : B → B → Type 0) (g : A → B) (xs : List A) → Pairwise (λ x y. R (g x) (g y)) xs → Pairwise R (map g xs)
+pairwise-mapped R g [] h = tt
+pairwise-mapped R g (x ∷ xs) h = (all-mapped (R (g x)) g xs (h .0), pairwise-mapped R g xs (h .1))
 
 module _ (R : ℕ → ℕ → Type 0) (one-way : (x y : ℕ) → R x y → R y x → ⊥) where
   -- two heads, each in the other's list, are equal

@@ -48,3 +48,7 @@ pub upFrom-at : (a n i d : ℕ) → i < n → getD (upFrom a n) i d ≡ a + i
 upFrom-at a zero i d h = absurd (omega arith)
 upFrom-at a (suc n) zero d h = sym (add-zero a)
 upFrom-at a (suc n) (suc i) d h = upFrom-at (suc a) n i d (omega arith) ∙ suc-add a i ∙ sym (add-suc a i)
+
+pub upFrom-shifted : (a n : ℕ) → map suc (upFrom a n) ≡ upFrom (suc a) n
+upFrom-shifted a zero = refl
+upFrom-shifted a (suc n) = ap (λ (xs : List ℕ). suc a ∷ xs) (upFrom-shifted (suc a) n)

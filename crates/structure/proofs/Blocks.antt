@@ -11,10 +11,10 @@ use lib.ListN.{length}
 use borrow.Author.Tests.{ltb-true, ltb-false, lt-ltb, eqb-true, eqb-false, eq-eqb, ne-eqb}
 use Rattle.lists.specs.Lists.{consIf, keep, member, All, Rising, fallingFrom}
 use Rattle.lists.proofs.Tests.{by-test, true-or-false, same-test, or-true-cases, or-true-left, or-true-right, and-left, and-right, and-both, and-false-right}
-use Rattle.lists.proofs.Keep.{all-map, all-always, all-both, all-keep, kept-pass, keep-none, keep-same, keep-after, length-keep}
+use Rattle.lists.proofs.Keep.{all-map, all-mapped, all-always, all-both, all-keep, kept-pass, keep-none, keep-same, keep-after, length-keep}
 use Rattle.lists.proofs.Membership.{eqb-same, all-member, all-of-members, member-keep}
 use Rattle.lists.proofs.Pairwise.{pairwise-keep}
-use Rattle.lists.proofs.FlatMap.{all-flatMap, keep-flatMap, flatMap-same, all-mapped, falling-within, flatMap-none, flatMap-one, keep-one}
+use Rattle.lists.proofs.FlatMap.{all-flatMap, keep-flatMap, flatMap-same, falling-within, flatMap-none, flatMap-one, keep-one}
 use Rattle.treap.specs.Treap.{Tree, keys, rootKey, top, treap}
 use Rattle.treap.specs.Treap.Tree.{leaf, node}
 use Rattle.treap.specs.Levels.{rank, leader}

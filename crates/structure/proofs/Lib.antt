@@ -15,3 +15,4 @@ pub mod Blocks
 pub mod BlockSizes
 pub mod BlockTree
 pub mod SearchPath
+pub mod Relabel

@@ -1,0 +1,3 @@
+-- The definitions that the contracts of `columns` cite.
+pub mod Positions
+pub mod Links

@@ -1,0 +1,4 @@
+-- Lemmas of the slots over plain lists.
+pub mod Probing
+pub mod Placing
+pub mod Placed
