@@ -1,3 +1,5 @@
 -- The definitions that the contracts of `columns` cite.
 pub mod Positions
 pub mod Links
+pub mod Columns
+pub mod Steps

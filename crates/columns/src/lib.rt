@@ -1,2 +1,4 @@
 // The columns of a rising list of keys, in terms of positions.
+pub mod leaders;
 pub mod links;
+pub mod ranks;

@@ -1,6 +1,6 @@
 -- Laws of `flatMap` with `keep` and `All`, and of `fallingFrom`. Assumes nothing.
 use mathlib.Core.Bool.{Bool, true, false, cond, _||_, _&&_}
-use mathlib.Core.List.{List, [], _∷_, _++_, map, flatMap, append-nil}
+use mathlib.Core.List.{List, [], _∷_, _++_, map, flatMap, append-nil, append-assoc}
 use mathlib.Core.Logic.{_⊎_, _≢_, inl, inr, ⊎-elim}
 use mathlib.Core.Path.{_≡_, refl, sym, ap, ap₂, _∙_, subst}
 use Prim.Native.Nat.{ℕ, zero, suc, _+_, _<_, _≤_}
@@ -17,6 +17,11 @@ module _ {A B : Type 0} where
   all-flatMap P g [] h = tt
   all-flatMap P g (x ∷ xs) h = all-append P (g x) (flatMap g xs) (h .0) (all-flatMap P g xs (h .1))
 
+  pub flatMap-append : (g : A → List B) (xs ys : List A) → flatMap g (xs ++ ys) ≡ flatMap g xs ++ flatMap g ys
+  unfolding flatMap
+  flatMap-append g [] ys = refl
+  flatMap-append g (x ∷ xs) ys = ap (λ zs. g x ++ zs) (flatMap-append g xs ys) ∙ sym (append-assoc (g x) (flatMap g xs) (flatMap g ys))
+
   pub keep-flatMap : (f : B → Bool) (g : A → List B) (xs : List A) → keep f (flatMap g xs) ≡ flatMap (λ x. keep f (g x)) xs
   unfolding flatMap
   keep-flatMap f g [] = refl
@@ -26,6 +31,11 @@ module _ {A B : Type 0} where
   unfolding flatMap
   flatMap-same g h [] e = refl
   flatMap-same g h (x ∷ xs) e = ap₂ (λ ys zs. ys ++ zs) (e .0) (flatMap-same g h xs (e .1))
+
+pub flatMap-mapped : {A B C : Type 0} (g : B → List C) (f : A → B) (xs : List A) → flatMap g (map f xs) ≡ flatMap (λ x. g (f x)) xs
+unfolding flatMap
+flatMap-mapped g f [] = refl
+flatMap-mapped {C = C} g f (x ∷ xs) = ap (λ (ys : List C). g (f x) ++ ys) (flatMap-mapped g f xs)
 
 pub falling-within : (n : ℕ) → All (λ i. (1 ≤ i) × (i ≤ n)) (fallingFrom n)
 falling-within zero = tt

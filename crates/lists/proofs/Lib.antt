@@ -5,7 +5,10 @@ pub mod Membership
 pub mod Pairwise
 pub mod Rising
 pub mod Sorting
+pub mod Occurrences
+pub mod Sorted
 pub mod Replaced
 pub mod FlatMap
 pub mod UpFrom
 pub mod Overwrite
+pub mod Parts

@@ -8,7 +8,7 @@ use native.Mathlib.Omega.{arith}
 use lib.Dec.{eqb}
 use lib.ListN.{length}
 use borrow.Author.Tests.{eqb-true, eqb-false, eq-eqb, ne-eqb}
-use Rattle.lists.specs.Lists.{consIf, keep, every, some, All, member, first, last, largest}
+use Rattle.lists.specs.Lists.{consIf, keep, every, some, All, member, first, last, largest, same}
 use Rattle.lists.proofs.Tests.{by-test, true-or-false, or-true-cases, or-true-left, or-true-right, or-both-false, and-left, and-right, and-both, same-test}
 use Rattle.lists.proofs.Keep.{keep-none}
 
@@ -113,6 +113,14 @@ first-passes d f (x ∷ xs) y m e =
     let found = first-passes d f xs y later e in
     rw t (found .0, or-true-right (eqb (first d f xs) x) (member (first d f xs) xs) (found .1)))
 
+-- what is found, where something is
+pub first-found : (d : ℕ) (f : ℕ → Bool) (P : ℕ → Type 0) (xs : List ℕ) → All P xs → first d f xs ≢ d
+    → (f (first d f xs) ≡ true) × P (first d f xs)
+first-found d f P [] h found = absurd (found refl)
+first-found d f P (x ∷ xs) h found =
+    by-test (f x) (λ t. rw t (t, h .0))
+    (λ t. rw t (first-found d f P xs (h .1) (λ e. found (ap (λ b. cond b x (first d f xs)) t ∙ e))))
+
 -- ---- last
 pub last-snoc : (xs : List ℕ) (y : ℕ) → last (xs ++ (y ∷ [])) ≡ y
 last-snoc [] y = refl
@@ -135,3 +143,21 @@ largest-is f (suc n) r up down h =
   where
     split : (a b : ℕ) → a ≤ b → (a < b) ⊎ (b ≡ a)
     split a b k = by-test (eqb b a) (λ e. inr (eqb-true b a e)) (λ e. let d : b ≢ a = eqb-false b a e in inl (omega arith))
+
+-- ---- same: the test of equality
+pub same-says : (xs ys : List ℕ) → same xs ys ≡ true → xs ≡ ys
+same-says [] [] h = refl
+same-says [] (y ∷ ys) h = absurd (true-or-false false h refl)
+same-says (x ∷ xs) [] h = absurd (true-or-false false h refl)
+same-says (x ∷ xs) (y ∷ ys) h =
+    ap₂ (λ (z : ℕ) (zs : List ℕ). z ∷ zs) (eqb-true x y (and-left (eqb x y) (same xs ys) h)) (same-says xs ys (and-right (eqb x y) (same xs ys) h))
+
+same-self : (xs : List ℕ) → same xs xs ≡ true
+same-self [] = refl
+same-self (x ∷ xs) = and-both (eqb x x) (same xs xs) (eqb-same x) (same-self xs)
+
+pub same-when : (xs ys : List ℕ) → xs ≡ ys → same xs ys ≡ true
+same-when xs ys e = ap (same xs) (sym e) ∙ same-self xs
+
+pub same-differs : (xs ys : List ℕ) → (xs ≡ ys → ⊥) → same xs ys ≡ false
+same-differs xs ys d = by-test (same xs ys) (λ h. absurd (d (same-says xs ys h))) (λ h. h)

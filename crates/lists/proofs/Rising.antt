@@ -1,4 +1,5 @@
--- Rising lists: the parts below and above an element, and that a rising list is determined by its members. Assumes nothing.
+-- Rising lists: the parts below and above an element, that a rising list is determined by its members, and the test by
+-- neighbours. Assumes nothing.
 use mathlib.Core.Bool.{Bool, true, false, _||_, _&&_}
 use mathlib.Core.List.{List, [], _∷_, _++_, append-nil}
 use mathlib.Core.Logic.{⊎-elim}
@@ -7,9 +8,9 @@ use Prim.Native.Nat.{ℕ, _<_, _≤_}
 use native.Mathlib.Omega.{arith}
 use lib.Dec.{eqb, ltb}
 use lib.ListN.{length}
-use borrow.Author.Tests.{eqb-true, ne-eqb, lt-ltb, le-ltb}
-use Rattle.lists.specs.Lists.{keep, All, member, Rising}
-use Rattle.lists.proofs.Tests.{by-test, true-or-false, or-true-cases}
+use borrow.Author.Tests.{eqb-true, ne-eqb, ltb-true, lt-ltb, le-ltb}
+use Rattle.lists.specs.Lists.{keep, All, member, Rising, risesB}
+use Rattle.lists.proofs.Tests.{by-test, true-or-false, or-true-cases, and-left, and-right, and-both}
 use Rattle.lists.proofs.Keep.{all-map, keep-append, keep-all, keep-none}
 use Rattle.lists.proofs.Membership.{all-member}
 use Rattle.lists.proofs.Pairwise.{pairwise-join, pairwise-unique}
@@ -63,3 +64,17 @@ rising-once (v ∷ vs) z h =
     let q = eqb-true v z e in
     rw (e, keep-none (λ x. eqb x z) vs (all-map (λ x. v < x) (λ x. eqb x z ≡ false) (λ x (l : v < x). ne-eqb x z (λ i. omega arith)) vs (h .0))) (omega arith))
     (λ e. rw e (rising-once vs z (h .1)))
+
+-- ---- risesB: the test by neighbours
+pub rises-says : (xs : List ℕ) → risesB xs ≡ true → Rising xs
+rises-says [] e = tt
+rises-says (x ∷ []) e = (tt, tt)
+rises-says (x ∷ y ∷ ys) e =
+    let l = ltb-true x y (and-left (ltb x y) (risesB (y ∷ ys)) e) in
+    let later = rises-says (y ∷ ys) (and-right (ltb x y) (risesB (y ∷ ys)) e) in
+    ((l, all-map (λ z. y < z) (λ z. x < z) (λ z (k : y < z). omega arith) ys (later .0)), later)
+
+pub rises-when : (xs : List ℕ) → Rising xs → risesB xs ≡ true
+rises-when [] h = refl
+rises-when (x ∷ []) h = refl
+rises-when (x ∷ y ∷ ys) h = and-both (ltb x y) (risesB (y ∷ ys)) (lt-ltb x y (h .0 .0)) (rises-when (y ∷ ys) (h .1))

@@ -56,6 +56,13 @@ abbrev pub member : ℕ → List ℕ → Bool
 member x [] = false
 member x (y ∷ ys) = eqb x y || member x ys
 
+-- The two lists are equal.
+abbrev pub same : List ℕ → List ℕ → Bool
+same [] [] = true
+same [] (y ∷ ys) = false
+same (x ∷ xs) [] = false
+same (x ∷ xs) (y ∷ ys) = eqb x y && same xs ys
+
 -- The different numbers of a list, each once.
 abbrev pub distinct : List ℕ → List ℕ
 distinct [] = []
@@ -92,3 +99,9 @@ fallingFrom (suc n) = suc n ∷ fallingFrom n
 -- The list rises strictly: each number is below all that come after it.
 abbrev pub Rising : List ℕ → Type 0
 Rising xs = Pairwise _<_ xs
+
+-- Each number is less than the next.
+abbrev pub risesB : List ℕ → Bool
+risesB [] = true
+risesB (x ∷ []) = true
+risesB (x ∷ y ∷ ys) = ltb x y && risesB (y ∷ ys)

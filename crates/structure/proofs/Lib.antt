@@ -16,3 +16,4 @@ pub mod BlockSizes
 pub mod BlockTree
 pub mod SearchPath
 pub mod Relabel
+pub mod RelabelSlots

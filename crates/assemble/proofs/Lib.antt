@@ -1,0 +1,3 @@
+-- Lemmas of assembling over plain lists.
+pub mod Filling
+pub mod Preparing

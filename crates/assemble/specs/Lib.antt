@@ -1,0 +1,2 @@
+-- What the parts of assembling a table hand to each other.
+pub mod Assemble

@@ -1,0 +1,34 @@
+-- The steps by which the columns are made: what a column has for a position, and the fold's standings as values.
+-- Assumes nothing.
+use mathlib.Core.Bool.{cond}
+use mathlib.Core.List.{List, _∷_}
+use Prim.Native.Nat.{ℕ, zero, suc, max, _≤_}
+use lib.Dec.{ltb}
+use lib.ListN.{getD, set}
+use Rattle.structure.proofs.Fold.{Standing}
+use Rattle.columns.specs.Columns.{mostPositions, largestOrder}
+use Rattle.columns.specs.declared.ranks.Standing.{Standing as Pair}
+
+-- What a column has for a position; zero for none.
+abbrev pub entryAt : List ℕ → ℕ → ℕ
+entryAt column position = getD (0 ∷ column) position 0
+
+-- A pair of a rank and a count, as the fold has it.
+abbrev pub standingOf : Pair → Standing
+standingOf s = record { rank = s .rank; count = s .count }
+
+-- A standing that leaves room for one rank more and for the sum of two counts.
+pub record Small (s : Standing) : Type 0 where
+  pub lowRank : s .rank ≤ mostPositions
+  pub lowCount : s .count ≤ largestOrder
+
+-- The root's own rule, among n positions: one rank above its children's, or 0 where it is alone; its count is 1.
+abbrev pub raiseRoot : ℕ → Standing → Standing → Standing
+raiseRoot n a b = record { rank = cond (ltb 1 n) (suc (max (a .rank) (b .rank))) 0; count = 1 }
+
+-- The column of leaders with that of a child written: its parent, by its index, where that has the higher rank, else the
+-- parent's leader. No child, no change.
+abbrev pub handedDown : ℕ → ℕ → List ℕ → List ℕ → List ℕ
+handedDown parent zero rank leader = leader
+handedDown parent (suc child) rank leader =
+    set leader child (cond (ltb (getD rank child 0) (getD rank parent 0)) (suc parent) (getD leader parent 0))

@@ -1,0 +1,6 @@
+-- The laws of `decode`. `Held` is for the crates above it.
+pub mod Held
+mod Neighbours
+mod Collected
+mod Gathered
+mod Start

@@ -1,0 +1,2 @@
+-- The definitions that the contracts of `decode` cite.
+pub mod Decode

@@ -1,0 +1,2 @@
+-- The words of a table from the columns of its keys.
+pub mod Encode

@@ -1,0 +1,4 @@
+-- Laws of the search for a key's slot, one subject a file.
+pub mod Searching
+pub mod Landing
+pub mod Finding

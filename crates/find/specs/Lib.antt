@@ -1,0 +1,2 @@
+-- The search for a key's slot.
+pub mod Find

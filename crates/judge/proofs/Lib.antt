@@ -1,0 +1,4 @@
+-- Laws of judging.
+pub mod Lengths
+pub mod Verdicts
+pub mod Decides

@@ -1,0 +1,101 @@
+-- What the tests of examining say of the verdict. Assumes nothing.
+use mathlib.Core.Bool.{Bool, true, false, cond, _&&_, not}
+use mathlib.Core.Logic.{_≢_}
+use mathlib.Core.List.{List}
+use mathlib.Core.Path.{_≡_, refl, sym, ap, ap₂, _∙_, subst}
+use Prim.Native.Nat.{ℕ, _<_, _≤_, _^_}
+use native.Mathlib.Omega.{arith}
+use lib.Dec.{leb, eqb}
+use lib.ListN.{length, getD, take}
+use borrow.Author.Tests.{le-leb, lt-leb, ne-eqb, eq-eqb}
+use Rattle.lists.specs.Lists.{risesB, same, overwrite, All, Rising}
+use Rattle.lists.proofs.Tests.{true-or-false, and-false-right, and-both}
+use Rattle.lists.proofs.Rising.{rises-says}
+use Rattle.table.specs.Layout.{mostSlots, orderWord}
+use Rattle.table.specs.Contents.{Contents, tableOrder}
+use Rattle.table.specs.Table.{fresh, contentsOf}
+use Rattle.table.specs.Sound.{soundWith}
+use Rattle.table.proofs.Soundness.{shown-fit}
+use Rattle.decode.proofs.Held.{sorted-held-nonzero, contents-keys}
+use Rattle.assemble.specs.Assemble.{Keys}
+use Rattle.assemble.proofs.Filling.{starts-with}
+use Rattle.judge.specs.declared.Verdict.{Verdict}
+use Rattle.judge.specs.declared.Verdict.the-variants.{Sound, Unsound}
+use Rattle.judge.specs.Judge.{slotsFor, verdictOf, isSound}
+
+abbrev says : Verdict → Bool
+says (Sound n) = true
+says Unsound = false
+
+says-cond : (b : Bool) (n : ℕ) → says (cond b (Sound n) Unsound) ≡ b
+says-cond true n = refl
+says-cond false n = refl
+
+module _ (many : ℕ) (words : List ℕ) where
+  -- an order that no table has
+  pub order-low : getD words 0 0 < 3 → soundWith many words ≡ false
+  unfolding soundWith contentsOf tableOrder
+  order-low h = rw (lt-leb 3 (getD words 0 0) h)
+
+  pub order-high : 255 < getD words 0 0 → soundWith many words ≡ false
+  unfolding soundWith contentsOf tableOrder
+  order-high h = ap (λ b. b && (risesB (contentsOf many words .keys) && same words (fresh many (contentsOf many words)))) (and-false-right (leb 3 (getD words 0 0)) (leb (getD words 0 0) 255) (lt-leb (getD words 0 0) 255 h))
+
+  right-order : 3 ≤ getD words 0 0 → getD words 0 0 ≤ 255 → tableOrder (contentsOf many words .order) ≡ true
+  unfolding contentsOf tableOrder
+  right-order h k = and-both (leb 3 (getD words 0 0)) (leb (getD words 0 0) 255) (le-leb 3 (getD words 0 0) h) (le-leb (getD words 0 0) 255 k)
+
+  -- the other tests, once the order is one
+  pub keys-do-not-rise : 3 ≤ getD words 0 0 → getD words 0 0 ≤ 255 → risesB (contentsOf many words .keys) ≡ false → soundWith many words ≡ false
+  unfolding soundWith
+  keys-do-not-rise h k e = rw (right-order h k, e)
+
+  pub decided : 3 ≤ getD words 0 0 → getD words 0 0 ≤ 255 → risesB (contentsOf many words .keys) ≡ true → soundWith many words ≡ same words (fresh many (contentsOf many words))
+  unfolding soundWith
+  decided h k e = rw (right-order h k, e)
+
+  pub unsound : soundWith many words ≡ false → Unsound ≡ verdictOf many words
+  unfolding verdictOf
+  unsound e = rw e
+
+  pub sound : (n : ℕ) → soundWith many words ≡ true → n ≡ length (contentsOf many words .keys) → Sound n ≡ verdictOf many words
+  unfolding verdictOf
+  sound n e h = rw (e, h)
+
+  verdict-says : soundWith many words ≡ says (verdictOf many words)
+  unfolding verdictOf
+  verdict-says = sym (says-cond (soundWith many words) (length (contentsOf many words .keys)))
+
+  -- the decision, from the verdict
+  pub told-sound : slotsFor (length words) ≡ many → many ≢ 0 → (n : ℕ) → verdictOf many words ≡ Sound n → true ≡ isSound words
+  unfolding isSound
+  told-sound e d n v = rw (e, ne-eqb many 0 d) (sym (verdict-says ∙ ap says v))
+
+  pub told-unsound : slotsFor (length words) ≡ many → many ≢ 0 → verdictOf many words ≡ Unsound → false ≡ isSound words
+  unfolding isSound
+  told-unsound e d v = rw (e, ne-eqb many 0 d) (sym (verdict-says ∙ ap says v))
+
+  -- ---- the keys that are read, as the comparison takes them
+  pub keys-read : (lent keys : List ℕ) (n : ℕ) → keys ≡ overwrite lent 0 (contentsOf many words .keys) → n ≡ length (contentsOf many words .keys) → take n keys ≡ contentsOf many words .keys
+  keys-read lent keys n e h = starts-with keys lent (contentsOf many words .keys) n e (sym h)
+
+  pub can-be-compared : many ≤ mostSlots → 3 ≤ getD words 0 0 → getD words 0 0 ≤ 255 → risesB (contentsOf many words .keys) ≡ true → Keys (getD words 0 0) (contentsOf many words .keys)
+  can-be-compared few low high e =
+      record {
+        wide = omega arith;
+        narrow = high;
+        rising = rises-says (contentsOf many words .keys) e;
+        some = subst (All (λ k. 1 ≤ k)) (sym (contents-keys words many)) (sorted-held-nonzero words many);
+        few = omega (arith, shown-fit many words);
+      }
+
+  pub compared : (order : ℕ) (keys : List ℕ) (slots : ℕ) → order ≡ getD words 0 0 → keys ≡ contentsOf many words .keys → slots ≡ many
+      → same words (fresh slots (record { order = order; keys = keys })) ≡ same words (fresh many (contentsOf many words))
+  unfolding contentsOf
+  compared order keys slots e f g =
+      ap₂ (λ (m : ℕ) (c : Contents). same words (fresh m c)) g (λ i. record { order = e i; keys = f i })
+
+-- words that no table has
+pub no-slots : (words : List ℕ) → slotsFor (length words) ≡ 0 → false ≡ isSound words
+unfolding isSound
+no-slots words e = rw e refl

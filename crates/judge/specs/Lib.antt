@@ -1,0 +1,2 @@
+-- Deciding whether a table is sound.
+pub mod Judge

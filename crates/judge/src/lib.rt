@@ -1,0 +1,270 @@
+// Deciding whether a table is sound.
+ghost use mathlib.Core.Path.{_≡_};
+ghost use Prim.Native.Nat.{_<_, _≤_};
+ghost use lib.ListN.{length};
+ghost use mathlib.Core.Bool.{true};
+ghost use Rattle.lists.specs.Lists.{overwrite};
+ghost use Rattle.table.specs.Layout.{mostSlots, tableWords};
+ghost use Rattle.table.specs.Table.{contentsOf};
+ghost use Rattle.table.specs.Sound.{soundWith};
+ghost use Rattle.judge.specs.Judge.{slotsFor, verdictOf, isSound};
+
+const HEADER_WORDS: usize = 3;
+
+const SLOT_WORDS: usize = 6;
+
+const MOST_SLOTS: usize = 4096;
+
+const ORDER_WORD: usize = 0;
+
+const LEAST_ORDER: u64 = 3;
+
+const GREATEST_ORDER: u64 = 255;
+
+// The number of slots of a table of so many words; 0 where no table has so many.
+pub fn slots_for(words: usize) -> usize
+    ensures { λ r. ⌜ r ≡ slotsFor words ⌝ }
+{
+    if words < HEADER_WORDS + SLOT_WORDS {
+        return 0;
+    }
+    let rest = words - HEADER_WORDS;
+    if rest % SLOT_WORDS != 0 {
+        return 0;
+    }
+    let many = rest / SLOT_WORDS;
+    if MOST_SLOTS < many {
+        return 0;
+    }
+    many
+}
+
+// What examining a table finds: how many keys it holds, where it is sound.
+pub enum Verdict {
+    Sound(usize),
+    Unsound,
+}
+
+// Write at the start of `keys` the keys in the slots of a table, rising; how many there are. What the other lists then hold is
+// left open.
+fn read_keys(
+    table: &[u64],
+    many: usize,
+    held: &mut [u64],
+    weights: &mut [u64],
+    ranking: &mut [u64],
+    spare: &mut [u64],
+    keys: &mut [u64],
+) -> usize
+    requires { ⌜ tableWords many ≤ length (now table) ⌝ }
+    requires { ⌜ (many ≤ length (now held)) × (many ≤ length (now weights)) × (many ≤ length (now ranking)) × (many ≤ length (now spare)) × (many ≤ length (now keys)) ⌝ }
+    ensures { λ r. ⌜ r ≡ length (contentsOf many (now (table .entry)) .keys) ⌝ }
+    ensures { λ _. ⌜ now (keys .exit) ≡ overwrite (now (keys .entry)) 0 (contentsOf many (now (table .entry)) .keys) ⌝ }
+{
+    let n = decode::collect(table, many, held);
+    decode::sort_keys(held, n, weights, ranking, spare, keys);
+    n
+}
+
+// Examine a table of `many` slots; where it is sound, its keys, rising, are then at the start of `keys`. Internal to this
+// library's crates: the other lists are room to work in, as long as the table has slots; what they then hold is left open.
+pub fn examine(
+    table: &[u64],
+    many: usize,
+    keys: &mut [u64],
+    weights: &mut [u64],
+    ranking: &mut [u64],
+    left: &mut [u64],
+    right: &mut [u64],
+    rank: &mut [u64],
+    count: &mut [u64],
+    leader: &mut [u64],
+    slots: &mut [u64],
+) -> Verdict
+    requires { ⌜ (0 < many) × (many ≤ mostSlots) × (length (now table) ≡ tableWords many) × (length (now slots) ≡ many) ⌝ }
+    requires { ⌜ (many ≤ length (now keys)) × (many ≤ length (now weights)) × (many ≤ length (now ranking)) ⌝ }
+    requires { ⌜ (many ≤ length (now left)) × (many ≤ length (now right)) × (many ≤ length (now rank)) ⌝ }
+    requires { ⌜ (many ≤ length (now count)) × (many ≤ length (now leader)) ⌝ }
+    ensures { λ r. ⌜ r ≡ verdictOf many (now (table .entry)) ⌝ }
+    ensures { λ _. ⌜ (soundWith many (now (table .entry)) ≡ true → now (keys .exit) ≡ overwrite (now (keys .entry)) 0 (contentsOf many (now (table .entry)) .keys)) ⌝ }
+{
+    let order = table[ORDER_WORD];
+    if order < LEAST_ORDER {
+        return Verdict::Unsound;
+    }
+    if GREATEST_ORDER < order {
+        return Verdict::Unsound;
+    }
+    let n = read_keys(table, many, rank, weights, ranking, left, keys);
+    if !decode::rises(keys, n) {
+        return Verdict::Unsound;
+    }
+    if assemble::compare(
+        order,
+        &keys[..n],
+        weights,
+        ranking,
+        left,
+        right,
+        rank,
+        count,
+        leader,
+        slots,
+        table,
+    ) {
+        return Verdict::Sound(n);
+    }
+    Verdict::Unsound
+}
+
+// The same with `slots` at least as long as the table has slots.
+fn examine_within(
+    table: &[u64],
+    many: usize,
+    keys: &mut [u64],
+    weights: &mut [u64],
+    ranking: &mut [u64],
+    left: &mut [u64],
+    right: &mut [u64],
+    rank: &mut [u64],
+    count: &mut [u64],
+    leader: &mut [u64],
+    slots: &mut [u64],
+) -> Verdict
+    requires { ⌜ (0 < many) × (many ≤ mostSlots) × (length (now table) ≡ tableWords many) × (many ≤ length (now slots)) ⌝ }
+    requires { ⌜ (many ≤ length (now keys)) × (many ≤ length (now weights)) × (many ≤ length (now ranking)) ⌝ }
+    requires { ⌜ (many ≤ length (now left)) × (many ≤ length (now right)) × (many ≤ length (now rank)) ⌝ }
+    requires { ⌜ (many ≤ length (now count)) × (many ≤ length (now leader)) ⌝ }
+    ensures { λ r. ⌜ r ≡ verdictOf many (now (table .entry)) ⌝ }
+{
+    examine(
+        table,
+        many,
+        keys,
+        weights,
+        ranking,
+        left,
+        right,
+        rank,
+        count,
+        leader,
+        &mut slots[..many],
+    )
+}
+
+// Examine a table of up to 64 slots.
+fn examine_small(table: &[u64], many: usize) -> Verdict
+    requires { ⌜ (0 < many) × (many ≤ 64) × (length (now table) ≡ tableWords many) ⌝ }
+    ensures { λ r. ⌜ r ≡ verdictOf many (now (table .entry)) ⌝ }
+{
+    let mut keys = [0u64; 64];
+    let mut weights = [0u64; 64];
+    let mut ranking = [0u64; 64];
+    let mut left = [0u64; 64];
+    let mut right = [0u64; 64];
+    let mut rank = [0u64; 64];
+    let mut count = [0u64; 64];
+    let mut leader = [0u64; 64];
+    let mut slots = [0u64; 64];
+    examine_within(
+        table,
+        many,
+        &mut keys,
+        &mut weights,
+        &mut ranking,
+        &mut left,
+        &mut right,
+        &mut rank,
+        &mut count,
+        &mut leader,
+        &mut slots,
+    )
+}
+
+// Examine a table of up to 512 slots.
+fn examine_medium(table: &[u64], many: usize) -> Verdict
+    requires { ⌜ (0 < many) × (many ≤ 512) × (length (now table) ≡ tableWords many) ⌝ }
+    ensures { λ r. ⌜ r ≡ verdictOf many (now (table .entry)) ⌝ }
+{
+    let mut keys = [0u64; 512];
+    let mut weights = [0u64; 512];
+    let mut ranking = [0u64; 512];
+    let mut left = [0u64; 512];
+    let mut right = [0u64; 512];
+    let mut rank = [0u64; 512];
+    let mut count = [0u64; 512];
+    let mut leader = [0u64; 512];
+    let mut slots = [0u64; 512];
+    examine_within(
+        table,
+        many,
+        &mut keys,
+        &mut weights,
+        &mut ranking,
+        &mut left,
+        &mut right,
+        &mut rank,
+        &mut count,
+        &mut leader,
+        &mut slots,
+    )
+}
+
+// Examine a table of up to 4096 slots.
+fn examine_large(table: &[u64], many: usize) -> Verdict
+    requires { ⌜ (0 < many) × (many ≤ 4096) × (length (now table) ≡ tableWords many) ⌝ }
+    ensures { λ r. ⌜ r ≡ verdictOf many (now (table .entry)) ⌝ }
+{
+    let mut keys = [0u64; 4096];
+    let mut weights = [0u64; 4096];
+    let mut ranking = [0u64; 4096];
+    let mut left = [0u64; 4096];
+    let mut right = [0u64; 4096];
+    let mut rank = [0u64; 4096];
+    let mut count = [0u64; 4096];
+    let mut leader = [0u64; 4096];
+    let mut slots = [0u64; 4096];
+    examine_within(
+        table,
+        many,
+        &mut keys,
+        &mut weights,
+        &mut ranking,
+        &mut left,
+        &mut right,
+        &mut rank,
+        &mut count,
+        &mut leader,
+        &mut slots,
+    )
+}
+
+// Examine a table, with no more room than tables of about its size need.
+fn examine_sized(table: &[u64], many: usize) -> Verdict
+    requires { ⌜ (0 < many) × (many ≤ mostSlots) × (length (now table) ≡ tableWords many) ⌝ }
+    ensures { λ r. ⌜ r ≡ verdictOf many (now (table .entry)) ⌝ }
+{
+    if many <= 64 {
+        return examine_small(table, many);
+    }
+    if many <= 512 {
+        return examine_medium(table, many);
+    }
+    examine_large(table, many)
+}
+
+// Whether a table is sound, whatever its words and their number.
+pub fn judge(table: &[u64]) -> bool
+    ensures { λ r. ⌜ r ≡ isSound (now (table .entry)) ⌝ }
+{
+    let many = slots_for(table.len());
+    if many == 0 {
+        return false;
+    }
+    let verdict = examine_sized(table, many);
+    if let Verdict::Sound(_) = verdict {
+        true
+    } else {
+        false
+    }
+}

@@ -1,0 +1,5 @@
+-- Laws of the table's words, one subject a file.
+pub mod Words
+pub mod Held
+pub mod Reading
+pub mod Soundness
