@@ -1,12 +1,12 @@
 // The treap's links over the positions of a list of weights.
 ghost use mathlib.Core.Path.{_≡_};
-ghost use mathlib.Core.List.{map, _++_};
-ghost use Prim.Native.Nat.{_<_, _≤_, _-_, suc};
-ghost use lib.ListN.{length, drop};
+ghost use Prim.Native.Nat.{_<_, _≤_};
+ghost use lib.ListN.{length};
 ghost use Rattle.lists.specs.Lists.{overwrite};
-ghost use Rattle.treap.specs.Treap.{top, leftLink, rightLink};
+ghost use Rattle.treap.specs.Treap.{top};
 ghost use Rattle.columns.specs.Positions.{positions, weightAt};
 ghost use Rattle.columns.specs.Links.{between, leftLinks, rightLinks};
+ghost use Rattle.columns.specs.Columns.{leftColumn, rightColumn};
 
 // The position that outranks the rest of those from index `lo` up to `hi`; 0 where there is none.
 fn best(weights: &[u64], lo: usize, hi: usize) -> usize
@@ -62,8 +62,8 @@ fn grow(weights: &[u64], lo: usize, hi: usize, root: usize, left: &mut [u64], ri
 pub fn links(weights: &[u64], left: &mut [u64], right: &mut [u64]) -> usize
     requires { ⌜ (length (now weights) ≤ length (now left)) × (length (now weights) ≤ length (now right)) ⌝ }
     ensures { λ r. ⌜ r ≡ top (weightAt (now (weights .entry))) (positions (length (now (weights .entry)))) ⌝ }
-    ensures { λ _. ⌜ now (left .exit) ≡ overwrite (now (left .entry)) 0 (map (leftLink (weightAt (now (weights .entry))) (positions (length (now (weights .entry))))) (positions (length (now (weights .entry))))) ⌝ }
-    ensures { λ _. ⌜ now (right .exit) ≡ overwrite (now (right .entry)) 0 (map (rightLink (weightAt (now (weights .entry))) (positions (length (now (weights .entry))))) (positions (length (now (weights .entry))))) ⌝ }
+    ensures { λ _. ⌜ now (left .exit) ≡ overwrite (now (left .entry)) 0 (leftColumn (now (weights .entry)) (length (now (weights .entry)))) ⌝ }
+    ensures { λ _. ⌜ now (right .exit) ≡ overwrite (now (right .entry)) 0 (rightColumn (now (weights .entry)) (length (now (weights .entry)))) ⌝ }
 {
     let n = weights.len();
     let root = best(weights, 0, n);

@@ -6,16 +6,11 @@ ghost use lib.ListN.{length, take, drop};
 ghost use Rattle.lists.specs.Lists.{overwrite, same, All};
 ghost use Rattle.table.specs.Layout.{tableWords, slotWords};
 ghost use Rattle.encode.specs.Encode.{keyAt, slotAt, wordsOf, Linked};
-
-const HEADER_WORDS: usize = 3;
-
-const SLOT_WORDS: usize = 6;
-
-const ORDER_WORD: usize = 0;
-
-const SIZE_WORD: usize = 1;
-
-const ROOT_WORD: usize = 2;
+use table::HEADER_WORDS;
+use table::ORDER_WORD;
+use table::ROOT_WORD;
+use table::SIZE_WORD;
+use table::SLOT_WORDS;
 
 // The key at a position; 0 at position 0.
 fn key_at(keys: &[u64], position: u64) -> u64

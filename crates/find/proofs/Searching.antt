@@ -1,4 +1,4 @@
--- The search in any words: the test of one slot, the steps, where it can end, and the answer. Assumes at least one slot.
+-- The search in any words: the test of one slot, where it can end, and the answer. Assumes at least one slot.
 use mathlib.Core.Bool.{Bool, true, false, _||_}
 use mathlib.Core.List.{List}
 use mathlib.Core.Logic.{_⊎_, _≢_, inl, inr, ⊎-elim}
@@ -11,7 +11,7 @@ use Rattle.lists.specs.Lists.{first}
 use Rattle.lists.proofs.Tests.{by-test, or-true-cases, or-true-left, or-true-right, or-both-false}
 use Rattle.priority.specs.Priority.{homeOf}
 use Rattle.priority.proofs.Bounds.{homeOf-below}
-use Rattle.slots.proofs.Probing.{after, inTurn, probes-in-turn}
+use Rattle.slots.proofs.Probing.{after, inTurn, after-within, probes-in-turn}
 use Rattle.find.specs.Find.{stopsAt, slotFound, foundAt}
 use Rattle.find.specs.declared.Found.the-variants.{At, Nowhere}
 
@@ -34,29 +34,8 @@ module _ (key word : ℕ) where
   stops-says t =
       ⊎-elim (λ e. inl (eqb-true word 0 e)) (λ e. inr (eqb-true word key e)) (or-true-cases (eqb word 0) (eqb word key) t)
 
--- ---- slot by slot, for any test
-pub after-within : (many at : ℕ) → at < many → after many at < many
-after-within many at h =
-    by-test (eqb (suc at) many)
-    (λ t. rw t (omega arith))
-    (λ t. rw t (let d : suc at ≢ many = eqb-false (suc at) many t in omega arith))
-
+-- ---- where a search ends, for any test
 module _ (many : ℕ) (f : ℕ → Bool) where
-  pub search-finds : (at left : ℕ) → 0 < left → f at ≡ true → first many f (inTurn many at left) ≡ at
-  search-finds at zero l e = absurd (omega arith)
-  search-finds at (suc left) l e = rw e
-
-  pub search-goes-on : (at left : ℕ) → 0 < left → f at ≡ false
-      → first many f (inTurn many at left) ≡ first many f (inTurn many (after many at) (left - 1))
-  search-goes-on at zero l e = absurd (omega arith)
-  search-goes-on at (suc left) l e =
-      let back : suc left - 1 ≡ left = omega arith in
-      rw e (ap (λ (n : ℕ). first many f (inTurn many (after many at) n)) (sym back))
-
-  pub search-ends : (at left : ℕ) → left ≤ 0 → first many f (inTurn many at left) ≡ many
-  search-ends at zero h = refl
-  search-ends at (suc left) h = absurd (omega arith)
-
   -- A slot that passes the test, or none.
   abbrev Outcome : ℕ → Type 0
   Outcome slot = ((slot < many) × (f slot ≡ true)) ⊎ (slot ≡ many)

@@ -4,14 +4,9 @@ ghost use Prim.Native.Nat.{_<_, _≤_};
 ghost use lib.ListN.{length};
 ghost use Rattle.table.specs.Layout.{tableWords};
 ghost use Rattle.find.specs.Find.{slotFound, foundAt};
-
-// The words of a table before its first slot.
-const HEADER_WORDS: usize = 3;
-
-const SLOT_WORDS: usize = 6;
-
-// A slot's key, among the slot's words.
-const KEY_FIELD: usize = 0;
+use table::HEADER_WORDS;
+use table::KEY_FIELD;
+use table::SLOT_WORDS;
 
 // Where the search stops.
 pub enum Found {

@@ -8,18 +8,12 @@ ghost use Rattle.table.specs.Layout.{mostSlots, tableWords};
 ghost use Rattle.table.specs.Table.{contentsOf};
 ghost use Rattle.table.specs.Sound.{soundWith};
 ghost use Rattle.judge.specs.Judge.{slotsFor, verdictOf, isSound};
-
-const HEADER_WORDS: usize = 3;
-
-const SLOT_WORDS: usize = 6;
-
-const MOST_SLOTS: usize = 4096;
-
-const ORDER_WORD: usize = 0;
-
-const LEAST_ORDER: u64 = 3;
-
-const GREATEST_ORDER: u64 = 255;
+use table::GREATEST_ORDER;
+use table::HEADER_WORDS;
+use table::LEAST_ORDER;
+use table::MOST_SLOTS;
+use table::ORDER_WORD;
+use table::SLOT_WORDS;
 
 // The number of slots of a table of so many words; 0 where no table has so many.
 pub fn slots_for(words: usize) -> usize

@@ -54,33 +54,40 @@ probes-in-turn many home h =
     sym (ap (inTurn many home) parts ∙ in-turn-up many home (many - home) home (omega arith) (omega arith)
     ∙ ap (λ (xs : List ℕ). upFrom home (many - home) ++ xs) (in-turn-low many 0 home (omega arith)))
 
--- ---- the search for the first empty slot, step by step
-pub empty : List ℕ → ℕ → Bool
-empty slots i = eqb (getD slots i 0) 0
-
-pub search-starts : (slots : List ℕ) (home : ℕ) → home < length slots → firstEmpty slots home ≡ first (length slots) (empty slots) (inTurn (length slots) home (length slots))
-unfolding firstEmpty empty
-search-starts slots home h = ap (first (length slots) (empty slots)) (probes-in-turn (length slots) home h)
-
-pub search-finds : (slots : List ℕ) (many at left : ℕ) → 0 < left → getD slots at 0 ≡ 0 → first many (empty slots) (inTurn many at left) ≡ at
-unfolding empty
-search-finds slots many at zero l e = absurd (omega arith)
-search-finds slots many at (suc left) l e = rw (eq-eqb (getD slots at 0) 0 e)
-
-pub search-goes-on : (slots : List ℕ) (many at left : ℕ) → 0 < left → (getD slots at 0 ≡ 0 → ⊥)
-    → first many (empty slots) (inTurn many at left) ≡ first many (empty slots) (inTurn many (after many at) (left - 1))
-unfolding empty
-search-goes-on slots many at zero l d = absurd (omega arith)
-search-goes-on slots many at (suc left) l d =
-    let back : suc left - 1 ≡ left = omega arith in
-    rw (ne-eqb (getD slots at 0) 0 d) (ap (λ (n : ℕ). first many (empty slots) (inTurn many (after many at) n)) (sym back))
-
-pub search-ends : (slots : List ℕ) (many at left : ℕ) → left ≤ 0 → first many (empty slots) (inTurn many at left) ≡ many
-search-ends slots many at zero h = refl
-search-ends slots many at (suc left) h = absurd (omega arith)
-
+-- ---- the slot after a slot
 pub after-last : (many at : ℕ) → at + 1 ≡ many → after many at ≡ 0
 after-last many at e = rw (eq-eqb (suc at) many (omega arith))
 
 pub after-other : (many at : ℕ) → (at + 1 ≡ many → ⊥) → after many at ≡ at + 1
 after-other many at d = rw (ne-eqb (suc at) many (λ e. d (omega arith))) (omega arith)
+
+pub after-within : (many at : ℕ) → at < many → after many at < many
+after-within many at h =
+    by-test (eqb (suc at) many)
+    (λ t. rw t (omega arith))
+    (λ t. rw t (let d : suc at ≢ many = eqb-false (suc at) many t in omega arith))
+
+-- ---- a search slot by slot, for any test
+module _ (many : ℕ) (f : ℕ → Bool) where
+  pub search-finds : (at left : ℕ) → 0 < left → f at ≡ true → first many f (inTurn many at left) ≡ at
+  search-finds at zero l e = absurd (omega arith)
+  search-finds at (suc left) l e = rw e
+
+  pub search-goes-on : (at left : ℕ) → 0 < left → f at ≡ false
+      → first many f (inTurn many at left) ≡ first many f (inTurn many (after many at) (left - 1))
+  search-goes-on at zero l e = absurd (omega arith)
+  search-goes-on at (suc left) l e =
+      let back : suc left - 1 ≡ left = omega arith in
+      rw e (ap (λ (n : ℕ). first many f (inTurn many (after many at) n)) (sym back))
+
+  pub search-ends : (at left : ℕ) → left ≤ 0 → first many f (inTurn many at left) ≡ many
+  search-ends at zero h = refl
+  search-ends at (suc left) h = absurd (omega arith)
+
+-- ---- the search for the first empty slot
+abbrev pub empty : List ℕ → ℕ → Bool
+empty slots i = eqb (getD slots i 0) 0
+
+pub search-starts : (slots : List ℕ) (home : ℕ) → home < length slots → firstEmpty slots home ≡ first (length slots) (empty slots) (inTurn (length slots) home (length slots))
+unfolding firstEmpty
+search-starts slots home h = ap (first (length slots) (empty slots)) (probes-in-turn (length slots) home h)

@@ -1,1 +1,25 @@
-// The table.
+// The numbers of a table's layout, for the crates whose code reads or writes its words; `specs/Layout` has the same by name.
+
+// The words before the first slot.
+pub const HEADER_WORDS: usize = 3;
+
+// The words of a slot.
+pub const SLOT_WORDS: usize = 6;
+
+// A slot's key, among the slot's words.
+pub const KEY_FIELD: usize = 0;
+
+// Where the order, the number of keys and the root stand.
+pub const ORDER_WORD: usize = 0;
+
+pub const SIZE_WORD: usize = 1;
+
+pub const ROOT_WORD: usize = 2;
+
+// The most slots that a table has.
+pub const MOST_SLOTS: usize = 4096;
+
+// The orders that a table may have.
+pub const LEAST_ORDER: u64 = 3;
+
+pub const GREATEST_ORDER: u64 = 255;

@@ -9,11 +9,10 @@ use borrow.Author.Needs.{needs}
 use borrow.Author.Tests.{eqb-true, eqb-false}
 use Rattle.lists.specs.Lists.{first}
 use Rattle.priority.proofs.Bounds.{homeOf-below}
-use Rattle.slots.proofs.Probing.{after, inTurn, after-last, after-other}
+use Rattle.slots.proofs.Probing.{after, inTurn, after-last, after-other, after-within, search-finds, search-goes-on, search-ends}
 use Rattle.table.specs.Layout.{keyIn}
 use Rattle.find.specs.Find.{stopsAt, slotFound, foundAt}
-use Rattle.find.proofs.Searching.{stops-on-empty, stops-on-key, passes-other, after-within, found-at, found-nowhere}
-use Rattle.find.proofs.Searching.{search-starts, search-finds, search-goes-on, search-ends}
+use Rattle.find.proofs.Searching.{stops-on-empty, stops-on-key, passes-other, search-starts, found-at, found-nowhere}
 use Rattle.find.proofs.find.Statement.{statement}
 use Rattle.find.proofs.find.Tie as tie
 

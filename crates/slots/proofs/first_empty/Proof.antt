@@ -4,7 +4,8 @@ use mathlib.Core.Path.{_≡_, refl, sym, ap, _∙_}
 use mathlib.Core.Logic.{_≢_, ⊎-elim}
 use Prim.Native.Nat.{ℕ, suc, _+_, _<_, _≤_, _-_}
 use native.Mathlib.Omega.{arith}
-use lib.ListN.{length}
+use lib.ListN.{length, getD}
+use borrow.Author.Tests.{eq-eqb, ne-eqb}
 use Rattle.lists.specs.Lists.{first}
 use Rattle.treap.specs.Slots.{firstEmpty}
 use Rattle.slots.proofs.Probing.{after, inTurn, empty, search-starts, search-finds, search-goes-on, search-ends, after-last, after-other}
@@ -34,7 +35,7 @@ returns : tie.Need-returns Inv-loop μ-loop
 returns c =
     let loop = c .before .before .before .loop in
     let slots = c .before .before .before .before .args .slots .now in
-    sym (search-finds slots (length slots) (loop .at) (loop .left) (c .before .before .loop-test .taken) (c .if1 .taken)) ∙ loop .inv .3
+    sym (search-finds (length slots) (empty slots) (loop .at) (loop .left) (c .before .before .loop-test .taken) (eq-eqb (getD slots (loop .at) 0) 0 (c .if1 .taken))) ∙ loop .inv .3
 
 add-at : tie.Need-add-at Inv-loop μ-loop
 add-at c = search needs
@@ -60,14 +61,14 @@ loop-again c =
       below,
       search needs,
       ap (λ (n : ℕ). first many (empty slots) (inTurn many n (loop .left - 1))) (sym step)
-          ∙ sym (search-goes-on slots many (loop .at) (loop .left) (c .before .before .before .loop-test .taken) (c .before .if1 .left)) ∙ loop .inv .3,
+          ∙ sym (search-goes-on many (empty slots) (loop .at) (loop .left) (c .before .before .before .loop-test .taken) (ne-eqb (getD slots (loop .at) 0) 0 (c .before .if1 .left))) ∙ loop .inv .3,
     )
 
 returns-2 : tie.Need-returns-2 Inv-loop μ-loop
 returns-2 c =
     let loop = c .before .loop in
     let slots = c .before .before .args .slots .now in
-    sym (search-ends slots (length slots) (loop .at) (loop .left) (c .loop-test .left)) ∙ loop .inv .3
+    sym (search-ends (length slots) (empty slots) (loop .at) (loop .left) (c .loop-test .left)) ∙ loop .inv .3
 
 pub first-empty-spec : {M : Type 1} → statement M
 first-empty-spec =
