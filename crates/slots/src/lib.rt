@@ -6,8 +6,8 @@ ghost use Rattle.treap.specs.Slots.{firstEmpty, slotsOf};
 ghost use Rattle.priority.specs.Priority.{homeOf};
 ghost use Rattle.columns.specs.Positions.{positions, weightAt, InOrder};
 
-// Empty every slot.
-fn clear(slots: &mut [u64])
+// Empty every slot: zeros throughout. Internal to this library's crates.
+pub fn clear(slots: &mut [u64])
     ensures { λ _. ⌜ now (slots .exit) ≡ replicate (length (now (slots .entry))) 0 ⌝ }
 {
     for i in 0..slots.len() {

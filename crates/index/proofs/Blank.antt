@@ -1,0 +1,28 @@
+-- The words of a blank table: its order, then zeros. Assumes nothing.
+use mathlib.Core.Bool.{cond}
+use mathlib.Core.List.{List, [], _∷_, _++_, flatMap}
+use mathlib.Core.Path.{_≡_, refl, sym, ap, _∙_}
+use Prim.Native.Nat.{ℕ, zero, suc, _+_, _*_, _≤_}
+use native.Mathlib.Omega.{arith}
+use lib.ListN.{length, set, replicate, replicate-append-replicate}
+use Rattle.treap.specs.Treap.{top}
+use Rattle.treap.specs.Slots.{slotsOf}
+use Rattle.table.specs.Layout.{slotWords, tableWords}
+use Rattle.table.specs.Contents.{Contents}
+use Rattle.table.specs.Table.{header, slotOf, fresh}
+
+empty-slots : (c : Contents) (many : ℕ) → flatMap (slotOf c) (replicate many 0) ≡ replicate (slotWords * many) 0
+unfolding slotOf flatMap
+empty-slots c zero = let none : 0 ≡ slotWords * 0 = omega arith in ap (λ (n : ℕ). replicate n 0) none
+empty-slots c (suc many) =
+    let all : slotWords + slotWords * many ≡ slotWords * suc many = omega arith in
+    ap (λ (xs : List ℕ). replicate slotWords 0 ++ xs) (empty-slots c many)
+    ∙ replicate-append-replicate slotWords (slotWords * many) 0
+    ∙ ap (λ (n : ℕ). replicate n 0) all
+
+pub blank-words : (many order : ℕ) → fresh many (record { order = order; keys = [] }) ≡ set (replicate (tableWords many) 0) 0 order
+unfolding fresh header top slotsOf flatMap
+blank-words many order =
+    let parts : suc (suc (suc (slotWords * many))) ≡ tableWords many = omega arith in
+    ap (λ (xs : List ℕ). order ∷ 0 ∷ 0 ∷ xs) (empty-slots (record { order = order; keys = [] }) many)
+    ∙ ap (λ (n : ℕ). set (replicate n 0) 0 order) parts

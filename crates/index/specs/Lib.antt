@@ -1,0 +1,2 @@
+-- What each call replies and leaves behind.
+pub mod Calls

@@ -1,0 +1,2 @@
+-- What the calls reply.
+pub mod Replies

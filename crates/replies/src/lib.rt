@@ -1,0 +1,39 @@
+// What the calls answer.
+
+// Why a call was turned down.
+pub enum Refusal {
+    // The number of words is no table's.
+    WrongLength,
+    // The order is outside 3 to 255.
+    WrongOrder,
+    // The key is zero.
+    ZeroKey,
+    // Low is above high.
+    LowAboveHigh,
+    // The list does not rise strictly, or has a zero.
+    NotRising,
+    // The bytes are no image that the writer makes.
+    NotAnImage,
+    // The table is not sound.
+    NotSound,
+    // The key to insert is held.
+    KeyHeld,
+    // The key to delete is absent.
+    KeyAbsent,
+    // There would be more keys than slots.
+    TooManyKeys,
+    // The output is longer than the room for it.
+    OutputTooShort,
+}
+
+// The answer of a set-up.
+pub enum SetUp {
+    Done,
+    Refused(Refusal),
+}
+
+// The answer of a build.
+pub enum Built {
+    Done,
+    Refused(Refusal),
+}

@@ -1,0 +1,2 @@
+-- Laws of what can be written.
+pub mod Fitting

@@ -1,0 +1,2 @@
+-- The definitions that the contracts of `sized` cite.
+pub mod Sized
