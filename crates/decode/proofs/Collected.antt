@@ -10,7 +10,7 @@ use Rattle.lists.proofs.Overwrite.{overwrite-none, overwrite-length}
 use Rattle.table.specs.Layout.{keyIn}
 use Rattle.decode.specs.Decode.{heldKeys}
 use Rattle.decode.proofs.Held.{held-none, held-empty, held-full, held-most}
-use Rattle.decode.proofs.Start.{overwrite-start-next}
+use Rattle.lists.proofs.Start.{overwrite-start-next}
 
 -- The keys of the first slots stand at the start of `keys`, `n` of them, and the rest is as it was before.
 pub record Collected (words before : List ℕ) (many : ℕ) (keys : List ℕ) (n slot : ℕ) : Type 0 where

@@ -3,4 +3,3 @@ pub mod Held
 mod Neighbours
 mod Collected
 mod Gathered
-mod Start

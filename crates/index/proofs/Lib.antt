@@ -3,3 +3,4 @@ pub mod Blank
 pub mod Tests
 pub mod SettingUp
 pub mod Building
+pub mod Ranging

@@ -1,9 +1,14 @@
 // The calls of the index. Each takes any words and any numbers; what it refuses it leaves as it was.
 ghost use mathlib.Core.Path.{_≡_};
+ghost use Prim.Native.Nat.{_<_, _≤_};
+ghost use lib.ListN.{length};
+ghost use Rattle.table.specs.Layout.{mostSlots, tableWords};
 ghost use Rattle.table.specs.Contents.{newOrder};
-ghost use Rattle.replies.specs.Replies.{setUpOf, builtOf};
-ghost use Rattle.index.specs.Calls.{risingKeys, setUpReply, setUpAfter, buildReply, buildAfter};
+ghost use Rattle.replies.specs.Replies.{setUpOf, builtOf, rangedOf};
+ghost use Rattle.index.specs.Calls.{risingKeys, setUpReply, setUpAfter, buildReply, buildAfter, rangeReply, rangeOutput};
+use judge::Verdict;
 use replies::Built;
+use replies::Ranged;
 use replies::Refusal;
 use replies::SetUp;
 use table::GREATEST_ORDER;
@@ -70,4 +75,67 @@ pub fn build(table: &mut [u64], order: u64, list: &[u64]) -> Built
     }
     sized::write(order, list, many, table);
     Built::Done
+}
+
+// The range of a table of `many` slots, with `keys` to work in.
+fn range_in(
+    table: &[u64],
+    many: usize,
+    low: u64,
+    high: u64,
+    keys: &mut [u64],
+    output: &mut [u64],
+) -> Ranged
+    requires { ⌜ (0 < many) × (many ≤ mostSlots) × (length (now table) ≡ tableWords many) × (low ≤ high) × (many ≤ length (now keys)) ⌝ }
+    ensures { λ r. ⌜ rangedOf r ≡ rangeReply (now (table .entry)) low high (now (output .entry)) ⌝ }
+    ensures { λ _. ⌜ now (output .exit) ≡ rangeOutput (now (table .entry)) low high (now (output .entry)) ⌝ }
+{
+    let found = judge::examine_sized(table, many, keys);
+    let Verdict::Sound(n) = found else {
+        return Ranged::Refused(Refusal::NotSound);
+    };
+    let wanted = ranges::count_within(keys, n, low, high);
+    if output.len() < wanted {
+        return Ranged::Refused(Refusal::OutputTooShort);
+    }
+    ranges::copy_within(keys, n, low, high, output);
+    Ranged::Wrote(wanted)
+}
+
+// The range of a table of up to 512 slots.
+fn range_few(table: &[u64], many: usize, low: u64, high: u64, output: &mut [u64]) -> Ranged
+    requires { ⌜ (0 < many) × (many ≤ 512) × (length (now table) ≡ tableWords many) × (low ≤ high) ⌝ }
+    ensures { λ r. ⌜ rangedOf r ≡ rangeReply (now (table .entry)) low high (now (output .entry)) ⌝ }
+    ensures { λ _. ⌜ now (output .exit) ≡ rangeOutput (now (table .entry)) low high (now (output .entry)) ⌝ }
+{
+    let mut keys = [0u64; 512];
+    range_in(table, many, low, high, &mut keys, output)
+}
+
+// The range of a table of up to 4,096 slots.
+fn range_many(table: &[u64], many: usize, low: u64, high: u64, output: &mut [u64]) -> Ranged
+    requires { ⌜ (0 < many) × (many ≤ 4096) × (length (now table) ≡ tableWords many) × (low ≤ high) ⌝ }
+    ensures { λ r. ⌜ rangedOf r ≡ rangeReply (now (table .entry)) low high (now (output .entry)) ⌝ }
+    ensures { λ _. ⌜ now (output .exit) ≡ rangeOutput (now (table .entry)) low high (now (output .entry)) ⌝ }
+{
+    let mut keys = [0u64; 4096];
+    range_in(table, many, low, high, &mut keys, output)
+}
+
+// Write at the start of `output` the keys that the table holds from `low` to `high`, both included, rising. Refusals: 1, 4, 7, 11.
+pub fn range(table: &[u64], low: u64, high: u64, output: &mut [u64]) -> Ranged
+    ensures { λ r. ⌜ rangedOf r ≡ rangeReply (now (table .entry)) low high (now (output .entry)) ⌝ }
+    ensures { λ _. ⌜ now (output .exit) ≡ rangeOutput (now (table .entry)) low high (now (output .entry)) ⌝ }
+{
+    let many = judge::slots_for(table.len());
+    if many == 0 {
+        return Ranged::Refused(Refusal::WrongLength);
+    }
+    if high < low {
+        return Ranged::Refused(Refusal::LowAboveHigh);
+    }
+    if many <= 512 {
+        return range_few(table, many, low, high, output);
+    }
+    range_many(table, many, low, high, output)
 }

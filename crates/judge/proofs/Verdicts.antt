@@ -27,6 +27,10 @@ abbrev says : Verdict → Bool
 says (Sound n) = true
 says Unsound = false
 
+abbrev sizeIn : Verdict → ℕ
+sizeIn (Sound n) = n
+sizeIn Unsound = 0
+
 says-cond : (b : Bool) (n : ℕ) → says (cond b (Sound n) Unsound) ≡ b
 says-cond true n = refl
 says-cond false n = refl
@@ -66,14 +70,20 @@ module _ (many : ℕ) (words : List ℕ) where
   unfolding verdictOf
   verdict-says = sym (says-cond (soundWith many words) (length (contentsOf many words .keys)))
 
-  -- the decision, from the verdict
-  pub told-sound : slotsFor (length words) ≡ many → many ≢ 0 → (n : ℕ) → verdictOf many words ≡ Sound n → true ≡ isSound words
-  unfolding isSound
-  told-sound e d n v = rw (e, ne-eqb many 0 d) (sym (verdict-says ∙ ap says v))
+  -- what a verdict says
+  pub told-true : (n : ℕ) → verdictOf many words ≡ Sound n → soundWith many words ≡ true
+  told-true n v = verdict-says ∙ ap says v
 
-  pub told-unsound : slotsFor (length words) ≡ many → many ≢ 0 → verdictOf many words ≡ Unsound → false ≡ isSound words
+  pub told-false : verdictOf many words ≡ Unsound → soundWith many words ≡ false
+  told-false v = verdict-says ∙ ap says v
+
+  pub told-size : (n : ℕ) → verdictOf many words ≡ Sound n → n ≡ length (contentsOf many words .keys)
+  told-size n v = sym (ap sizeIn (sound (length (contentsOf many words .keys)) (told-true n v) refl ∙ v))
+
+  -- the decision, from the verdict
+  pub decided-with : slotsFor (length words) ≡ many → many ≢ 0 → isSound words ≡ soundWith many words
   unfolding isSound
-  told-unsound e d v = rw (e, ne-eqb many 0 d) (sym (verdict-says ∙ ap says v))
+  decided-with e d = rw (e, ne-eqb many 0 d) refl
 
   -- ---- the keys that are read, as the comparison takes them
   pub keys-read : (lent keys : List ℕ) (n : ℕ) → keys ≡ overwrite lent 0 (contentsOf many words .keys) → n ≡ length (contentsOf many words .keys) → take n keys ≡ contentsOf many words .keys

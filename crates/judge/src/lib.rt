@@ -130,6 +130,7 @@ fn examine_within(
     requires { ⌜ (many ≤ length (now left)) × (many ≤ length (now right)) × (many ≤ length (now rank)) ⌝ }
     requires { ⌜ (many ≤ length (now count)) × (many ≤ length (now leader)) ⌝ }
     ensures { λ r. ⌜ r ≡ verdictOf many (now (table .entry)) ⌝ }
+    ensures { λ _. ⌜ (soundWith many (now (table .entry)) ≡ true → now (keys .exit) ≡ overwrite (now (keys .entry)) 0 (contentsOf many (now (table .entry)) .keys)) ⌝ }
 {
     examine(
         table,
@@ -147,11 +148,11 @@ fn examine_within(
 }
 
 // Examine a table of up to 64 slots.
-fn examine_small(table: &[u64], many: usize) -> Verdict
-    requires { ⌜ (0 < many) × (many ≤ 64) × (length (now table) ≡ tableWords many) ⌝ }
+fn examine_small(table: &[u64], many: usize, keys: &mut [u64]) -> Verdict
+    requires { ⌜ (0 < many) × (many ≤ 64) × (length (now table) ≡ tableWords many) × (many ≤ length (now keys)) ⌝ }
     ensures { λ r. ⌜ r ≡ verdictOf many (now (table .entry)) ⌝ }
+    ensures { λ _. ⌜ (soundWith many (now (table .entry)) ≡ true → now (keys .exit) ≡ overwrite (now (keys .entry)) 0 (contentsOf many (now (table .entry)) .keys)) ⌝ }
 {
-    let mut keys = [0u64; 64];
     let mut weights = [0u64; 64];
     let mut ranking = [0u64; 64];
     let mut left = [0u64; 64];
@@ -163,7 +164,7 @@ fn examine_small(table: &[u64], many: usize) -> Verdict
     examine_within(
         table,
         many,
-        &mut keys,
+        keys,
         &mut weights,
         &mut ranking,
         &mut left,
@@ -176,11 +177,11 @@ fn examine_small(table: &[u64], many: usize) -> Verdict
 }
 
 // Examine a table of up to 512 slots.
-fn examine_medium(table: &[u64], many: usize) -> Verdict
-    requires { ⌜ (0 < many) × (many ≤ 512) × (length (now table) ≡ tableWords many) ⌝ }
+fn examine_medium(table: &[u64], many: usize, keys: &mut [u64]) -> Verdict
+    requires { ⌜ (0 < many) × (many ≤ 512) × (length (now table) ≡ tableWords many) × (many ≤ length (now keys)) ⌝ }
     ensures { λ r. ⌜ r ≡ verdictOf many (now (table .entry)) ⌝ }
+    ensures { λ _. ⌜ (soundWith many (now (table .entry)) ≡ true → now (keys .exit) ≡ overwrite (now (keys .entry)) 0 (contentsOf many (now (table .entry)) .keys)) ⌝ }
 {
-    let mut keys = [0u64; 512];
     let mut weights = [0u64; 512];
     let mut ranking = [0u64; 512];
     let mut left = [0u64; 512];
@@ -192,7 +193,7 @@ fn examine_medium(table: &[u64], many: usize) -> Verdict
     examine_within(
         table,
         many,
-        &mut keys,
+        keys,
         &mut weights,
         &mut ranking,
         &mut left,
@@ -204,12 +205,12 @@ fn examine_medium(table: &[u64], many: usize) -> Verdict
     )
 }
 
-// Examine a table of up to 4096 slots.
-fn examine_large(table: &[u64], many: usize) -> Verdict
-    requires { ⌜ (0 < many) × (many ≤ 4096) × (length (now table) ≡ tableWords many) ⌝ }
+// Examine a table of up to 4,096 slots.
+fn examine_large(table: &[u64], many: usize, keys: &mut [u64]) -> Verdict
+    requires { ⌜ (0 < many) × (many ≤ 4096) × (length (now table) ≡ tableWords many) × (many ≤ length (now keys)) ⌝ }
     ensures { λ r. ⌜ r ≡ verdictOf many (now (table .entry)) ⌝ }
+    ensures { λ _. ⌜ (soundWith many (now (table .entry)) ≡ true → now (keys .exit) ≡ overwrite (now (keys .entry)) 0 (contentsOf many (now (table .entry)) .keys)) ⌝ }
 {
-    let mut keys = [0u64; 4096];
     let mut weights = [0u64; 4096];
     let mut ranking = [0u64; 4096];
     let mut left = [0u64; 4096];
@@ -221,7 +222,7 @@ fn examine_large(table: &[u64], many: usize) -> Verdict
     examine_within(
         table,
         many,
-        &mut keys,
+        keys,
         &mut weights,
         &mut ranking,
         &mut left,
@@ -233,18 +234,49 @@ fn examine_large(table: &[u64], many: usize) -> Verdict
     )
 }
 
-// Examine a table, with no more room than tables of about its size need.
-fn examine_sized(table: &[u64], many: usize) -> Verdict
+// Examine a table, with no more room than tables of about its size need; where it is sound, its keys, rising, are then at the
+// start of `keys`. Internal to this library's crates.
+pub fn examine_sized(table: &[u64], many: usize, keys: &mut [u64]) -> Verdict
+    requires { ⌜ (0 < many) × (many ≤ mostSlots) × (length (now table) ≡ tableWords many) × (many ≤ length (now keys)) ⌝ }
+    ensures { λ r. ⌜ r ≡ verdictOf many (now (table .entry)) ⌝ }
+    ensures { λ _. ⌜ (soundWith many (now (table .entry)) ≡ true → now (keys .exit) ≡ overwrite (now (keys .entry)) 0 (contentsOf many (now (table .entry)) .keys)) ⌝ }
+{
+    if many <= 64 {
+        return examine_small(table, many, keys);
+    }
+    if many <= 512 {
+        return examine_medium(table, many, keys);
+    }
+    examine_large(table, many, keys)
+}
+
+// The verdict on a table of up to 512 slots.
+fn decide_few(table: &[u64], many: usize) -> Verdict
+    requires { ⌜ (0 < many) × (many ≤ 512) × (length (now table) ≡ tableWords many) ⌝ }
+    ensures { λ r. ⌜ r ≡ verdictOf many (now (table .entry)) ⌝ }
+{
+    let mut keys = [0u64; 512];
+    examine_sized(table, many, &mut keys)
+}
+
+// The verdict on a table of up to 4,096 slots.
+fn decide_many(table: &[u64], many: usize) -> Verdict
+    requires { ⌜ (0 < many) × (many ≤ 4096) × (length (now table) ≡ tableWords many) ⌝ }
+    ensures { λ r. ⌜ r ≡ verdictOf many (now (table .entry)) ⌝ }
+{
+    let mut keys = [0u64; 4096];
+    examine_sized(table, many, &mut keys)
+}
+
+// The verdict on a table of that many slots.
+fn decide(table: &[u64], many: usize) -> Verdict
     requires { ⌜ (0 < many) × (many ≤ mostSlots) × (length (now table) ≡ tableWords many) ⌝ }
     ensures { λ r. ⌜ r ≡ verdictOf many (now (table .entry)) ⌝ }
 {
-    if many <= 64 {
-        return examine_small(table, many);
-    }
     if many <= 512 {
-        return examine_medium(table, many);
+        return decide_few(table, many);
     }
-    examine_large(table, many)
+    decide_many(table, many)
 }
 
 // Whether a table is sound, whatever its words and their number.
@@ -255,8 +287,8 @@ pub fn judge(table: &[u64]) -> bool
     if many == 0 {
         return false;
     }
-    let verdict = examine_sized(table, many);
-    if let Verdict::Sound(_) = verdict {
+    let found = decide(table, many);
+    if let Verdict::Sound(_) = found {
         true
     } else {
         false

@@ -12,3 +12,4 @@ pub mod FlatMap
 pub mod UpFrom
 pub mod Overwrite
 pub mod Parts
+pub mod Start

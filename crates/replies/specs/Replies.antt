@@ -8,6 +8,8 @@ use Rattle.replies.specs.declared.SetUp.{SetUp}
 use Rattle.replies.specs.declared.SetUp.the-variants as set-up
 use Rattle.replies.specs.declared.Built.{Built}
 use Rattle.replies.specs.declared.Built.the-variants as built
+use Rattle.replies.specs.declared.Ranged.{Ranged}
+use Rattle.replies.specs.declared.Ranged.the-variants as ranged
 
 -- "A refusal returns its number, all other numbers zero": the number, zero when the call is accepted, and the others.
 pub record Reply : Type 0 where
@@ -46,6 +48,11 @@ setUpOf (set-up.Refused r) = record { refusal = numberOf r; numbers = [] }
 abbrev pub builtOf : Built → Reply
 builtOf built.Done = record { refusal = 0; numbers = [] }
 builtOf (built.Refused r) = record { refusal = numberOf r; numbers = [] }
+
+-- "The held keys .. and their number".
+abbrev pub rangedOf : Ranged → Reply
+rangedOf (ranged.Wrote n) = record { refusal = 0; numbers = n ∷ [] }
+rangedOf (ranged.Refused r) = record { refusal = numberOf r; numbers = 0 ∷ [] }
 
 -- "A refusal .. changes no lent memory": the words after a call that was refused under this number, zero for none.
 abbrev pub unlessRefused : ℕ → List ℕ → List ℕ → List ℕ

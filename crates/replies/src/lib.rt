@@ -37,3 +37,9 @@ pub enum Built {
     Done,
     Refused(Refusal),
 }
+
+// The answer of a range: how many keys were written.
+pub enum Ranged {
+    Wrote(usize),
+    Refused(Refusal),
+}

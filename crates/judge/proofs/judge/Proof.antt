@@ -2,13 +2,13 @@
 use mathlib.Core.Path.{sym, _∙_}
 use lib.ListN.{length}
 use Rattle.judge.proofs.Lengths.{slots-for-some}
-use Rattle.judge.proofs.Verdicts.{told-sound, told-unsound, no-slots}
+use Rattle.judge.proofs.Verdicts.{decided-with, told-true, told-false, no-slots}
 use borrow.Author.Needs.{needs}
 use Rattle.judge.proofs.judge.Statement.{statement}
 use Rattle.judge.proofs.judge.Tie as tie
 use Rattle.judge.proofs.judge.Reads as reads
 use Rattle.judge.proofs.judge.Lts as lts
-use Rattle.judge.proofs.examine_sized.Reads as examine-sized-reads
+use Rattle.judge.proofs.decide.Reads as decide-reads
 use Rattle.judge.proofs.slots_for.Reads as slots-for-reads
 
 slots-for-requires : tie.Need-slots-for-requires
@@ -17,8 +17,8 @@ slots-for-requires c κs = search needs
 returns : tie.Need-returns
 returns c = no-slots (c .before .before .before .args .table .now) (sym (c .before .slots-for .ensures) ∙ c .if1 .taken)
 
-examine-sized-requires : tie.Need-examine-sized-requires
-examine-sized-requires c κs =
+decide-requires : tie.Need-decide-requires
+decide-requires c κs =
     let slots = c .before .slots-for in
     let right = slots-for-some (length (c .before .before .before .args .table .now)) (λ e. c .if1 .left (slots .ensures ∙ e)) in
     rw (slots .ensures) (right .some, right .within, right .long)
@@ -33,13 +33,17 @@ returns-2 : tie.Need-returns-2
 returns-2 c =
     let else = c .before .before .before in
     let many = else .before .slots-for in
-    told-sound (many .result) (else .before .before .before .args .table .now) (sym (many .ensures)) (else .if1 .left) (c .enum-told .given .0 .0) (sym (c .before .before .examine-sized .ensures) ∙ c .enum-told .given .1)
+    let words = else .before .before .before .args .table .now in
+    sym (decided-with (many .result) words (sym (many .ensures)) (else .if1 .left)
+    ∙ told-true (many .result) words (c .enum-told .given .0 .0) (sym (c .before .before .decide .ensures) ∙ c .enum-told .given .1))
 
 returns-3 : tie.Need-returns-3
 returns-3 c =
     let else = c .before .before .before in
     let many = else .before .slots-for in
-    told-unsound (many .result) (else .before .before .before .args .table .now) (sym (many .ensures)) (else .if1 .left) (sym (c .before .before .examine-sized .ensures) ∙ c .enum-told2 .given .1)
+    let words = else .before .before .before .args .table .now in
+    sym (decided-with (many .result) words (sym (many .ensures)) (else .if1 .left)
+    ∙ told-false (many .result) words (sym (c .before .before .decide .ensures) ∙ c .enum-told2 .given .1))
 
 pub judge-spec : {M : Type 1} → statement M
 judge-spec =
@@ -47,7 +51,7 @@ judge-spec =
     (tie.spec
     slots-for-requires
     returns
-    examine-sized-requires
+    decide-requires
     enum-told
     enum-told-2
     returns-2

@@ -1,0 +1,84 @@
+-- What the tests of a range say of its reply and of the output after it. Assumes nothing.
+use mathlib.Core.Bool.{Bool, true, false, not}
+use mathlib.Core.List.{List, [], _∷_}
+use mathlib.Core.Logic.{_≢_}
+use mathlib.Core.Path.{_≡_, refl, sym, ap, _∙_}
+use Prim.Native.Nat.{ℕ, _<_, _≤_}
+use native.Mathlib.Omega.{arith}
+use lib.Dec.{eqb, ltb}
+use lib.ListN.{length, take}
+use borrow.Author.Tests.{ne-eqb, lt-ltb, le-ltb}
+use Rattle.lists.specs.Lists.{overwrite}
+use Rattle.lists.proofs.Start.{take-overwritten}
+use Rattle.table.specs.Contents.{Contents}
+use Rattle.table.specs.Layout.{mostSlots, tableWords}
+use Rattle.table.specs.Table.{contentsOf}
+use Rattle.table.specs.Sound.{soundWith}
+use Rattle.judge.specs.Judge.{slotsFor, isSound}
+use Rattle.judge.proofs.Lengths.{slots-for-is}
+use Rattle.judge.proofs.Verdicts.{decided-with}
+use Rattle.ranges.specs.Ranges.{within}
+use Rattle.replies.specs.Replies.{rangedOf}
+use Rattle.replies.specs.declared.Refusal.the-variants.{WrongLength, LowAboveHigh, NotSound, OutputTooShort}
+use Rattle.replies.specs.declared.Ranged.{Ranged}
+use Rattle.replies.specs.declared.Ranged.the-variants.{Wrote, Refused}
+use Rattle.index.specs.Calls.{wrongLength, lowAboveHigh, notSound, outputTooShort, shown, rangeRefusal, rangeReply, rangeOutput}
+
+module _ (words : List ℕ) (low high : ℕ) (output : List ℕ) where
+  -- What a range that answers so and leaves this output meets.
+  abbrev Meets : Ranged → List ℕ → Type 0
+  Meets answer after = (rangedOf answer ≡ rangeReply words low high output) × (after ≡ rangeOutput words low high output)
+
+  pub refused-length : slotsFor (length words) ≡ 0 → Meets (Refused WrongLength) output
+  unfolding rangeReply rangeOutput rangeRefusal wrongLength
+  refused-length e = (rw e, rw e)
+
+  pub refused-order : slotsFor (length words) ≢ 0 → high < low → Meets (Refused LowAboveHigh) output
+  unfolding rangeReply rangeOutput rangeRefusal wrongLength lowAboveHigh
+  refused-order d h =
+      let r = ne-eqb (slotsFor (length words)) 0 d in
+      let above = lt-ltb high low h in
+      (rw (r, above), rw (r, above))
+
+  module _ (many : ℕ) (some : 0 < many) (most : many ≤ mostSlots) (long : length words ≡ tableWords many) (ordered : low ≤ high) where
+    here : slotsFor (length words) ≡ many
+    here = slots-for-is (length words) many some most long
+
+    right-length : eqb (slotsFor (length words)) 0 ≡ false
+    right-length = ne-eqb (slotsFor (length words)) 0 (λ e. let h = here in omega arith)
+
+    in-order : ltb high low ≡ false
+    in-order = le-ltb high low ordered
+
+    judged : (b : Bool) → soundWith many words ≡ b → isSound words ≡ b
+    judged b e = decided-with many words here (λ q. omega arith) ∙ e
+
+    keys-shown : shown words .keys ≡ contentsOf many words .keys
+    unfolding shown
+    keys-shown = ap (λ (n : ℕ). contentsOf n words .keys) here
+
+    pub refused-table : soundWith many words ≡ false → Meets (Refused NotSound) output
+    unfolding rangeReply rangeOutput rangeRefusal wrongLength lowAboveHigh notSound
+    refused-table e =
+        let unsound = judged false e in
+        (rw (right-length, in-order, unsound), rw (right-length, in-order, unsound))
+
+    -- the keys of the range, and how many they are
+    module _ (sound : soundWith many words ≡ true) (chosen : List ℕ) (found : chosen ≡ within low high (contentsOf many words .keys)) where
+      chosen-shown : within low high (shown words .keys) ≡ chosen
+      chosen-shown = ap (within low high) keys-shown ∙ sym found
+
+      pub refused-short : length output < length chosen → Meets (Refused OutputTooShort) output
+      unfolding rangeReply rangeOutput rangeRefusal wrongLength lowAboveHigh notSound outputTooShort
+      refused-short h =
+          let right = judged true sound in
+          let short = lt-ltb (length output) (length chosen) h in
+          (rw (chosen-shown, right-length, in-order, right, short), rw (chosen-shown, right-length, in-order, right, short))
+
+      pub accepted : length chosen ≤ length output → (n : ℕ) → n ≡ length chosen → (after : List ℕ) → after ≡ overwrite output 0 chosen
+          → Meets (Wrote n) after
+      unfolding rangeReply rangeOutput rangeRefusal wrongLength lowAboveHigh notSound outputTooShort
+      accepted h n e after q =
+          let right = judged true sound in
+          let fits = le-ltb (length output) (length chosen) h in
+          (rw (chosen-shown, right-length, in-order, right, fits, e), rw (chosen-shown, right-length, in-order, right, fits) q)

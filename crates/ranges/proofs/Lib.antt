@@ -1,0 +1,3 @@
+-- Laws of ranges.
+pub mod Kept
+mod Copied
