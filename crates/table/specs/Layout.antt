@@ -28,6 +28,21 @@ rootWord = 2
 abbrev pub keyField : ℕ
 keyField = 0
 
+abbrev pub leftField : ℕ
+leftField = 1
+
+abbrev pub rightField : ℕ
+rightField = 2
+
+abbrev pub leaderField : ℕ
+leaderField = 3
+
+abbrev pub rankField : ℕ
+rankField = 4
+
+abbrev pub countField : ℕ
+countField = 5
+
 -- "lives in lent 64-bit words, 3 + 6·M of them".
 abbrev pub tableWords : ℕ → ℕ
 tableWords many = headerWords + slotWords * many

@@ -6,8 +6,18 @@ pub const HEADER_WORDS: usize = 3;
 // The words of a slot.
 pub const SLOT_WORDS: usize = 6;
 
-// A slot's key, among the slot's words.
+// What each of a slot's words is, by its place among them.
 pub const KEY_FIELD: usize = 0;
+
+pub const LEFT_FIELD: usize = 1;
+
+pub const RIGHT_FIELD: usize = 2;
+
+pub const LEADER_FIELD: usize = 3;
+
+pub const RANK_FIELD: usize = 4;
+
+pub const COUNT_FIELD: usize = 5;
 
 // Where the order, the number of keys and the root stand.
 pub const ORDER_WORD: usize = 0;
