@@ -1,0 +1,2 @@
+-- Laws of changing a list in place, one subject a file.
+pub mod Shifting
