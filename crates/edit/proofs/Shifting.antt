@@ -10,6 +10,7 @@ use borrow.Author.Tests.{lt-ltb, le-ltb}
 use Rattle.lists.specs.Lists.{All, Rising, insertBy, overwrite}
 use Rattle.lists.proofs.Keep.{all-at}
 use Rattle.lists.proofs.Overwrite.{overwrite-none}
+use Rattle.edit.specs.Edit.{joined}
 
 -- ---- the place of a key
 -- a key goes before those above it and after those that are not
@@ -99,7 +100,8 @@ module _ (old : List ℕ) (n key : ℕ) where
         }
 
     pub shifted-all : Rising (take n old) → (0 < at → getD words (at - 1) 0 ≤ key)
-        → set words at key ≡ overwrite old 0 (insertBy ltb key (take n old))
+        → set words at key ≡ overwrite old 0 (joined key (take n old))
+    unfolding joined
     shifted-all rising low =
         let low-in : (i : ℕ) → suc i ≡ at → getD (take n old) i 0 ≤ key =
         λ i e.

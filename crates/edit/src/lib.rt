@@ -1,15 +1,15 @@
 // Changing a rising list of keys in place: a key more, or a key less.
 ghost use mathlib.Core.Path.{_≡_};
 ghost use Prim.Native.Nat.{_<_, _≤_};
-ghost use lib.Dec.{ltb};
 ghost use lib.ListN.{length, take};
-ghost use Rattle.lists.specs.Lists.{Rising, insertBy, overwrite};
+ghost use Rattle.lists.specs.Lists.{Rising, overwrite};
+ghost use Rattle.edit.specs.Edit.{joined};
 
 // Put a key into its place among the first `n`, which rise; those above it move up. Internal to this library's crates: their
 // lists have room for it.
 pub fn put_in(keys: &mut [u64], n: usize, key: u64)
     requires { ⌜ (n < length (now keys)) × Rising (take n (now keys)) ⌝ }
-    ensures { λ _. ⌜ now (keys .exit) ≡ overwrite (now (keys .entry)) 0 (insertBy ltb key (take n (now (keys .entry)))) ⌝ }
+    ensures { λ _. ⌜ now (keys .exit) ≡ overwrite (now (keys .entry)) 0 (joined key (take n (now (keys .entry)))) ⌝ }
 {
     let mut at = n;
     while 0 < at && key < keys[at - 1] {

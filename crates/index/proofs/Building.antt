@@ -19,7 +19,8 @@ use Rattle.replies.specs.Replies.{builtOf}
 use Rattle.replies.specs.declared.Refusal.the-variants.{WrongLength, WrongOrder, NotRising, TooManyKeys}
 use Rattle.replies.specs.declared.Built.{Built}
 use Rattle.replies.specs.declared.Built.the-variants.{Done, Refused}
-use Rattle.index.specs.Calls.{wrongLength, wrongOrder, risingKeys, notRising, tooManyKeys, rewritten, buildRefusal, buildReply, buildAfter}
+use Rattle.calls.specs.Reasons.{wrongLength, wrongOrder, risingKeys, notRising, tooManyKeys}
+use Rattle.calls.specs.Calls.{rewritten, buildRefusal, buildReply, buildAfter}
 use Rattle.index.proofs.Tests.{order-within, rising-says}
 
 module _ (words : List ℕ) (order : ℕ) (list : List ℕ) where

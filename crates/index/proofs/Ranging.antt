@@ -22,7 +22,8 @@ use Rattle.replies.specs.Replies.{rangedOf}
 use Rattle.replies.specs.declared.Refusal.the-variants.{WrongLength, LowAboveHigh, NotSound, OutputTooShort}
 use Rattle.replies.specs.declared.Ranged.{Ranged}
 use Rattle.replies.specs.declared.Ranged.the-variants.{Wrote, Refused}
-use Rattle.index.specs.Calls.{wrongLength, lowAboveHigh, notSound, outputTooShort, shown, rangeRefusal, rangeReply, rangeOutput}
+use Rattle.calls.specs.Reasons.{wrongLength, lowAboveHigh, notSound, outputTooShort, shown}
+use Rattle.calls.specs.Calls.{rangeRefusal, rangeReply, rangeOutput}
 
 module _ (words : List ℕ) (low high : ℕ) (output : List ℕ) where
   -- What a range that answers so and leaves this output meets.

@@ -14,7 +14,8 @@ use Rattle.replies.specs.Replies.{setUpOf}
 use Rattle.replies.specs.declared.Refusal.the-variants.{WrongLength, WrongOrder}
 use Rattle.replies.specs.declared.SetUp.{SetUp}
 use Rattle.replies.specs.declared.SetUp.the-variants.{Done, Refused}
-use Rattle.index.specs.Calls.{wrongLength, wrongOrder, rewritten, setUpRefusal, setUpReply, setUpAfter}
+use Rattle.calls.specs.Reasons.{wrongLength, wrongOrder}
+use Rattle.calls.specs.Calls.{rewritten, setUpRefusal, setUpReply, setUpAfter}
 use Rattle.index.proofs.Blank.{blank-words}
 
 module _ (words : List ℕ) (order : ℕ) where

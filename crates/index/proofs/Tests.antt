@@ -13,7 +13,7 @@ use Rattle.lists.proofs.Tests.{by-test, true-or-false, and-false-right, and-bot
 use Rattle.lists.proofs.Keep.{all-map}
 use Rattle.lists.proofs.Rising.{rises-says}
 use Rattle.table.specs.Contents.{tableOrder, newOrder}
-use Rattle.index.specs.Calls.{risingKeys}
+use Rattle.calls.specs.Reasons.{risingKeys}
 
 -- ---- orders
 pub order-low : (order : ℕ) → order < 3 → false ≡ newOrder order

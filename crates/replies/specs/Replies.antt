@@ -8,8 +8,14 @@ use Rattle.replies.specs.declared.SetUp.{SetUp}
 use Rattle.replies.specs.declared.SetUp.the-variants as set-up
 use Rattle.replies.specs.declared.Built.{Built}
 use Rattle.replies.specs.declared.Built.the-variants as built
+use Rattle.replies.specs.declared.Inserted.{Inserted}
+use Rattle.replies.specs.declared.Inserted.the-variants as inserted
+use Rattle.replies.specs.declared.Deleted.{Deleted}
+use Rattle.replies.specs.declared.Deleted.the-variants as deleted
 use Rattle.replies.specs.declared.Ranged.{Ranged}
 use Rattle.replies.specs.declared.Ranged.the-variants as ranged
+use Rattle.replies.specs.declared.Stepped.{Stepped}
+use Rattle.replies.specs.declared.Stepped.the-variants as stepped
 
 -- "A refusal returns its number, all other numbers zero": the number, zero when the call is accepted, and the others.
 pub record Reply : Type 0 where
@@ -49,12 +55,29 @@ abbrev pub builtOf : Built → Reply
 builtOf built.Done = record { refusal = 0; numbers = [] }
 builtOf (built.Refused r) = record { refusal = numberOf r; numbers = [] }
 
+-- "Insert and delete give the key's rank".
+abbrev pub insertedOf : Inserted → Reply
+insertedOf (inserted.Rank n) = record { refusal = 0; numbers = n ∷ [] }
+insertedOf (inserted.Refused r) = record { refusal = numberOf r; numbers = 0 ∷ [] }
+
+abbrev pub deletedOf : Deleted → Reply
+deletedOf (deleted.Rank n) = record { refusal = 0; numbers = n ∷ [] }
+deletedOf (deleted.Refused r) = record { refusal = numberOf r; numbers = 0 ∷ [] }
+
 -- "The held keys .. and their number".
 abbrev pub rangedOf : Ranged → Reply
 rangedOf (ranged.Wrote n) = record { refusal = 0; numbers = n ∷ [] }
 rangedOf (ranged.Refused r) = record { refusal = numberOf r; numbers = 0 ∷ [] }
 
--- "A refusal .. changes no lent memory": the words after a call that was refused under this number, zero for none.
-abbrev pub unlessRefused : ℕ → List ℕ → List ℕ → List ℕ
-unlessRefused zero changed before = changed
-unlessRefused (suc number) changed before = before
+-- "The step yields the least held key", one and the key, or "answers end", two zeros.
+abbrev pub steppedOf : Stepped → Reply
+steppedOf (stepped.Key k) = record { refusal = 0; numbers = 1 ∷ k ∷ [] }
+steppedOf stepped.End = record { refusal = 0; numbers = 0 ∷ 0 ∷ [] }
+steppedOf (stepped.Refused r) = record { refusal = numberOf r; numbers = 0 ∷ 0 ∷ [] }
+
+module _ {A : Type 0} where
+  -- "A refusal returns its number, all other numbers zero, and changes no lent memory": what a call that was refused under this
+  -- number, zero for none, gives or leaves.
+  abbrev pub unlessRefused : ℕ → A → A → A
+  unlessRefused zero accepted refused = accepted
+  unlessRefused (suc number) accepted refused = refused

@@ -38,8 +38,27 @@ pub enum Built {
     Refused(Refusal),
 }
 
+// The answer of an insert: the rank that the key now has.
+pub enum Inserted {
+    Rank(u64),
+    Refused(Refusal),
+}
+
+// The answer of a delete: the rank that the key had.
+pub enum Deleted {
+    Rank(u64),
+    Refused(Refusal),
+}
+
 // The answer of a range: how many keys were written.
 pub enum Ranged {
     Wrote(usize),
+    Refused(Refusal),
+}
+
+// The answer of a step: the next key, or the end.
+pub enum Stepped {
+    Key(u64),
+    End,
     Refused(Refusal),
 }

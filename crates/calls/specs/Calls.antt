@@ -1,55 +1,25 @@
 -- What each call replies and leaves behind, from what it is handed. Assumes nothing.
-use mathlib.Core.Bool.{Bool, not, _&&_}
 use mathlib.Core.List.{List, [], _∷_}
 use Prim.Native.Nat.{ℕ}
-use lib.Dec.{eqb, ltb}
 use lib.ListN.{length}
-use Rattle.lists.specs.Lists.{risesB, every, overwrite}
-use Rattle.table.specs.Contents.{Contents, newOrder}
-use Rattle.table.specs.Table.{fresh, contentsOf}
-use Rattle.judge.specs.Judge.{slotsFor, isSound}
+use Rattle.lists.specs.Lists.{overwrite}
+use Rattle.priority.specs.Priority.{priorityOf}
+use Rattle.treap.specs.Levels.{rank}
+use Rattle.table.specs.Contents.{Contents}
+use Rattle.table.specs.Table.{fresh}
+use Rattle.edit.specs.Edit.{joined, without}
+use Rattle.judge.specs.Judge.{slotsFor}
 use Rattle.ranges.specs.Ranges.{within}
-use Rattle.replies.specs.Replies.{Reply, Reason, lowest, unlessRefused}
-
--- "1. Table length is not 3 + 6·M."
-unfoldable pub wrongLength : List ℕ → Reason
-wrongLength words = record { number = 1; applies = eqb (slotsFor (length words)) 0 }
-
--- "2. Order outside 3 to 255."
-unfoldable pub wrongOrder : ℕ → Reason
-wrongOrder order = record { number = 2; applies = not (newOrder order) }
-
--- "Build takes a strictly rising list of non-zero keys, perhaps empty."
-unfoldable pub risingKeys : List ℕ → Bool
-risingKeys list = risesB list && every (λ k. not (eqb k 0)) list
-
--- "4. Low above high."
-unfoldable pub lowAboveHigh : ℕ → ℕ → Reason
-lowAboveHigh low high = record { number = 4; applies = ltb high low }
-
--- "5. The build list is not strictly rising or has a zero."
-unfoldable pub notRising : List ℕ → Reason
-notRising list = record { number = 5; applies = not (risingKeys list) }
-
--- "7. The table is not sound."
-unfoldable pub notSound : List ℕ → Reason
-notSound words = record { number = 7; applies = not (isSound words) }
-
--- "10. More keys than M would result."
-unfoldable pub tooManyKeys : List ℕ → ℕ → Reason
-tooManyKeys words n = record { number = 10; applies = ltb (slotsFor (length words)) n }
-
--- "11. The output slice is shorter than the output."
-unfoldable pub outputTooShort : ℕ → ℕ → Reason
-outputTooShort room long = record { number = 11; applies = ltb room long }
-
--- The order and the set that the words show.
-unfoldable pub shown : List ℕ → Contents
-shown words = contentsOf (slotsFor (length words)) words
+use Rattle.replies.specs.Replies.{Reply, lowest, unlessRefused}
+use Rattle.calls.specs.Reasons.{wrongLength, wrongOrder, zeroKey, lowAboveHigh, notRising, notSound, keyHeld, keyAbsent, tooManyKeys, outputTooShort, shown}
 
 -- The table of an order and keys, of so many slots as the words have.
 unfoldable pub rewritten : List ℕ → Contents → List ℕ
 rewritten words c = fresh (slotsFor (length words)) c
+
+-- A key's rank among those of an order and a set.
+unfoldable pub rankIn : Contents → ℕ → ℕ
+rankIn c key = rank (c .order) priorityOf (c .keys) key
 
 -- "Set-up uses 1, 2."
 unfoldable pub setUpRefusal : List ℕ → ℕ → ℕ
@@ -73,6 +43,49 @@ buildReply words order list = record { refusal = buildRefusal words order list; 
 -- "An accepted build writes it, whatever the lent words held."
 unfoldable pub buildAfter : List ℕ → ℕ → List ℕ → List ℕ
 buildAfter words order list = unlessRefused (buildRefusal words order list) (rewritten words (record { order = order; keys = list })) words
+
+-- The order and the set that the words show, with a key that joins the set, and with one that leaves it.
+unfoldable pub grown : List ℕ → ℕ → Contents
+grown words key = record { order = shown words .order; keys = joined key (shown words .keys) }
+
+unfoldable pub shrunk : List ℕ → ℕ → Contents
+shrunk words key = record { order = shown words .order; keys = without key (shown words .keys) }
+
+-- "Insert 1, 3, 7, 8, 10."
+unfoldable pub insertRefusal : List ℕ → ℕ → ℕ
+insertRefusal words key =
+    lowest
+    (wrongLength words
+    ∷ zeroKey key
+    ∷ notSound words
+    ∷ keyHeld words key
+    ∷ tooManyKeys words (length (grown words key .keys))
+    ∷ [])
+
+-- "Insert and delete give the key's rank (for delete, the rank it had)."
+unfoldable pub insertReply : List ℕ → ℕ → Reply
+insertReply words key =
+    record {
+      refusal = insertRefusal words key;
+      numbers = unlessRefused (insertRefusal words key) (rankIn (grown words key) key ∷ []) (0 ∷ []);
+    }
+
+unfoldable pub insertAfter : List ℕ → ℕ → List ℕ
+insertAfter words key = unlessRefused (insertRefusal words key) (rewritten words (grown words key)) words
+
+-- "Delete 1, 3, 7, 9."
+unfoldable pub deleteRefusal : List ℕ → ℕ → ℕ
+deleteRefusal words key = lowest (wrongLength words ∷ zeroKey key ∷ notSound words ∷ keyAbsent words key ∷ [])
+
+unfoldable pub deleteReply : List ℕ → ℕ → Reply
+deleteReply words key =
+    record {
+      refusal = deleteRefusal words key;
+      numbers = unlessRefused (deleteRefusal words key) (rankIn (shown words) key ∷ []) (0 ∷ []);
+    }
+
+unfoldable pub deleteAfter : List ℕ → ℕ → List ℕ
+deleteAfter words key = unlessRefused (deleteRefusal words key) (rewritten words (shrunk words key)) words
 
 -- "Range 1, 4, 7, 11."
 unfoldable pub rangeRefusal : List ℕ → ℕ → ℕ → List ℕ → ℕ

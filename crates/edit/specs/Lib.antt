@@ -1,0 +1,2 @@
+-- The definitions that the contracts of `edit` cite.
+pub mod Edit
