@@ -5,8 +5,8 @@ ghost use lib.ListN.{length, take};
 ghost use Rattle.lists.specs.Lists.{overwrite};
 ghost use Rattle.ranges.specs.Ranges.{lies, within};
 
-// Whether a key lies from `low` to `high`, both included.
-fn is_within(key: u64, low: u64, high: u64) -> bool
+// Whether a key lies from `low` to `high`, both included. Internal to this library's crates.
+pub fn is_within(key: u64, low: u64, high: u64) -> bool
     ensures { λ r. ⌜ r ≡ lies low high key ⌝ }
 {
     if key < low {

@@ -1,0 +1,2 @@
+-- Laws of seeking, one subject a file.
+pub mod Least

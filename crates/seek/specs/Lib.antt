@@ -1,0 +1,2 @@
+-- The definitions that the contracts of `seek` cite.
+pub mod Seek
