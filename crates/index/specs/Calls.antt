@@ -4,7 +4,7 @@ use mathlib.Core.List.{List, [], _∷_}
 use Prim.Native.Nat.{ℕ}
 use lib.Dec.{eqb, ltb}
 use lib.ListN.{length}
-use Rattle.lists.specs.Lists.{risesB, every, overwrite}
+use Rattle.lists.specs.Lists.{nonzero, risesB, every, overwrite}
 use Rattle.table.specs.Contents.{Contents, newOrder}
 use Rattle.table.specs.Table.{fresh, contentsOf}
 use Rattle.judge.specs.Judge.{slotsFor, isSound}
@@ -21,7 +21,7 @@ wrongOrder order = record { number = 2; applies = not (newOrder order) }
 
 -- "Build takes a strictly rising list of non-zero keys, perhaps empty."
 unfoldable pub risingKeys : List ℕ → Bool
-risingKeys list = risesB list && every (λ k. not (eqb k 0)) list
+risingKeys list = risesB list && every nonzero list
 
 -- "4. Low above high."
 unfoldable pub lowAboveHigh : ℕ → ℕ → Reason
