@@ -1,3 +1,2 @@
 -- Lemmas of assembling over plain lists.
-pub mod Filling
 pub mod Preparing

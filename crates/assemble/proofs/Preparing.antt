@@ -28,6 +28,7 @@ use Rattle.structure.proofs.Leaders.{leader-of-root}
 use Rattle.structure.proofs.Ancestors.{leader-leads}
 use Rattle.columns.specs.Positions.{positions, weightAt, InOrder}
 use Rattle.columns.specs.Columns.{leftColumn, rightColumn, rankColumn, countColumn, leaderColumn}
+use Rattle.columns.proofs.Filled.{column-length}
 use Rattle.columns.proofs.PositionTree.{child-within}
 use Rattle.table.specs.Table.{fresh}
 use Rattle.encode.specs.Encode.{Columns, Linked, wordsOf}
@@ -35,7 +36,6 @@ use Rattle.encode.proofs.Renaming.{column-entry}
 use Rattle.encode.proofs.Fresh.{Right, slots-within, words-are-fresh}
 use Rattle.slots.proofs.Placing.{placeAll-length}
 use Rattle.assemble.specs.Assemble.{Filled, Prepared}
-use Rattle.assemble.proofs.Filling.{column-length}
 
 -- ---- positions by falling weight stand in outranking order
 heavier-outranks : (ws : List ℕ) (i j : ℕ) → outranks (weightAt ws) (suc i) (suc j) ≡ heavier ws i j

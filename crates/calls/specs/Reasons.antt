@@ -4,7 +4,7 @@ use mathlib.Core.List.{List}
 use Prim.Native.Nat.{ℕ}
 use lib.Dec.{eqb, ltb}
 use lib.ListN.{length}
-use Rattle.lists.specs.Lists.{risesB, every, member}
+use Rattle.lists.specs.Lists.{nonzero, risesB, every, member}
 use Rattle.table.specs.Contents.{Contents, newOrder}
 use Rattle.table.specs.Table.{contentsOf}
 use Rattle.judge.specs.Judge.{slotsFor, isSound}
@@ -32,7 +32,7 @@ lowAboveHigh low high = record { number = 4; applies = ltb high low }
 
 -- "Build takes a strictly rising list of non-zero keys, perhaps empty."
 unfoldable pub risingKeys : List ℕ → Bool
-risingKeys list = risesB list && every (λ k. not (eqb k 0)) list
+risingKeys list = risesB list && every nonzero list
 
 -- "5. The build list is not strictly rising or has a zero."
 unfoldable pub notRising : List ℕ → Reason

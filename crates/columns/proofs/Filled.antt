@@ -8,9 +8,8 @@ use lib.Dec.{eqb}
 use lib.ListN.{length, getD, set, take, drop, length-set, length-map, take-append-drop}
 use lib.Seq.{getD-set-same, getD-set-other, getD-take, drop-set-lt, length-take-le, ext-getD}
 use borrow.Author.Tests.{eqb-true, eqb-false}
-use Rattle.lists.specs.Lists.{upFrom}
 use Rattle.lists.proofs.Tests.{by-test}
-use Rattle.lists.proofs.UpFrom.{upFrom-length}
+use Rattle.lists.proofs.UpFrom.{upFrom-length, mapped-upFrom-at}
 use Rattle.columns.specs.Positions.{positions}
 
 -- The column has f of the position, if it is one.
@@ -44,15 +43,13 @@ module _ (f : ℕ → ℕ) (column : List ℕ) (i x : ℕ) (right : x ≡ f (suc
       (λ e. record { at = λ some. getD-set-other column i j x 0 (eqb-false j i e) ∙ q .at some })
 
 -- ---- reading
-getD-map-upFrom : (f : ℕ → ℕ) (start many i : ℕ) → i < many → getD (map f (upFrom start many)) i 0 ≡ f (start + i)
-getD-map-upFrom f start zero i h = absurd (omega arith)
-getD-map-upFrom f start (suc many) zero h = ap f (omega arith)
-getD-map-upFrom f start (suc many) (suc i) h = getD-map-upFrom f (suc start) many i (omega arith) ∙ ap f (omega arith)
+pub column-length : (f : ℕ → ℕ) (n : ℕ) → length (map f (positions n)) ≡ n
+column-length f n = length-map (positions n) f ∙ upFrom-length 1 n
 
 -- the entry of a column that is a map over the positions
 pub column-at : (f : ℕ → ℕ) (n : ℕ) (column : List ℕ) → take n column ≡ map f (positions n) → (i : ℕ) → i < n → getD column i 0 ≡ f (suc i)
 column-at f n column e i h =
-    sym (getD-take n column i 0 h) ∙ ap (λ (xs : List ℕ). getD xs i 0) e ∙ getD-map-upFrom f 1 n i h ∙ ap f (omega arith)
+    sym (getD-take n column i 0 h) ∙ ap (λ (xs : List ℕ). getD xs i 0) e ∙ mapped-upFrom-at f 1 n i h ∙ ap f (omega arith)
 
 -- ---- a column that is filled
 pub filled-whole : (f : ℕ → ℕ) (n : ℕ) (before column : List ℕ) → n ≤ length before → Kept n before column
@@ -61,9 +58,9 @@ filled-whole f n before column room k filled =
     let long = k .long in
     let size : length (take n column) ≡ n = length-take-le n column (omega arith) in
     let front : take n column ≡ map f (positions n) =
-    ext-getD 0 (take n column) (map f (positions n)) (size ∙ sym (length-map (positions n) f ∙ upFrom-length 1 n))
+    ext-getD 0 (take n column) (map f (positions n)) (size ∙ sym (column-length f n))
     (λ i h.
     let low : i < n = omega arith in
-    getD-take n column i 0 low ∙ filled i low .at (omega arith) ∙ sym (getD-map-upFrom f 1 n i low ∙ ap f (omega arith)))
+    getD-take n column i 0 low ∙ filled i low .at (omega arith) ∙ sym (mapped-upFrom-at f 1 n i low ∙ ap f (omega arith)))
     in
     sym (take-append-drop n column) ∙ ap (λ (xs : List ℕ). xs ++ drop n column) front ∙ ap (λ (xs : List ℕ). map f (positions n) ++ xs) (k .rest)

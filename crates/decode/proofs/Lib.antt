@@ -1,5 +1,4 @@
 -- The laws of `decode`. `Held` is for the crates above it.
 pub mod Held
 mod Neighbours
-mod Collected
 mod Gathered

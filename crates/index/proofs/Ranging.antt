@@ -6,10 +6,9 @@ use mathlib.Core.Path.{_≡_, refl, sym, ap, _∙_}
 use Prim.Native.Nat.{ℕ, _<_, _≤_}
 use native.Mathlib.Omega.{arith}
 use lib.Dec.{eqb, ltb}
-use lib.ListN.{length, take}
+use lib.ListN.{length}
 use borrow.Author.Tests.{ne-eqb, lt-ltb, le-ltb}
 use Rattle.lists.specs.Lists.{overwrite}
-use Rattle.lists.proofs.Start.{take-overwritten}
 use Rattle.table.specs.Contents.{Contents}
 use Rattle.table.specs.Layout.{mostSlots, tableWords}
 use Rattle.table.specs.Table.{contentsOf}

@@ -11,6 +11,7 @@ use borrow.Author.Tests.{le-leb, lt-leb, ne-eqb, eq-eqb}
 use Rattle.lists.specs.Lists.{risesB, same, overwrite, All, Rising}
 use Rattle.lists.proofs.Tests.{true-or-false, and-false-right, and-both}
 use Rattle.lists.proofs.Rising.{rises-says}
+use Rattle.lists.proofs.Start.{starts-with}
 use Rattle.table.specs.Layout.{mostSlots, orderWord}
 use Rattle.table.specs.Contents.{Contents, tableOrder}
 use Rattle.table.specs.Table.{fresh, contentsOf}
@@ -18,7 +19,6 @@ use Rattle.table.specs.Sound.{soundWith}
 use Rattle.table.proofs.Soundness.{shown-fit}
 use Rattle.decode.proofs.Held.{sorted-held-nonzero, contents-keys}
 use Rattle.assemble.specs.Assemble.{Keys}
-use Rattle.assemble.proofs.Filling.{starts-with}
 use Rattle.judge.specs.declared.Verdict.{Verdict}
 use Rattle.judge.specs.declared.Verdict.the-variants.{Sound, Unsound}
 use Rattle.judge.specs.Judge.{slotsFor, verdictOf, isSound}

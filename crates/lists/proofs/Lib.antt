@@ -13,3 +13,4 @@ pub mod UpFrom
 pub mod Overwrite
 pub mod Parts
 pub mod Start
+pub mod Copying

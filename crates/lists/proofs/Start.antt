@@ -7,7 +7,7 @@ use lib.ListN.{length, getD, take, drop, set, length-append, length-map}
 use lib.Seq.{length-take-le, take-at, getD-take, drop-cons, append-snoc, set-append-seam}
 use Rattle.lists.specs.Lists.{All, overwrite}
 use Rattle.lists.proofs.Keep.{all-at}
-use Rattle.lists.proofs.Overwrite.{overwrite-start}
+use Rattle.lists.proofs.Overwrite.{overwrite-start, overwrite-length}
 use Rattle.lists.proofs.Replaced.{replaced}
 
 -- one element more
@@ -21,9 +21,16 @@ overwrite-start-next before new x h =
     ∙ sym (append-snoc new x (drop (suc (length new)) before))
     ∙ sym (overwrite-start before (new ++ (x ∷ [])) ∙ ap (λ (n : ℕ). new ++ (x ∷ []) ++ drop n before) more)
 
--- all of them taken again
-pub take-overwritten : (before new : List ℕ) (n : ℕ) → length new ≡ n → take n (overwrite before 0 new) ≡ new
-take-overwritten before new n e = ap (take n) (overwrite-start before new) ∙ take-at new (drop (length new) before) n e
+-- ---- what is written at the start of a list is its start
+pub starts-and : (xs old new : List ℕ) (n : ℕ) → xs ≡ new ++ drop n old → length new ≡ n → take n xs ≡ new
+starts-and xs old new n e h = ap (take n) e ∙ take-at new (drop n old) n h
+
+pub starts-with : (xs old new : List ℕ) (n : ℕ) → xs ≡ overwrite old 0 new → length new ≡ n → take n xs ≡ new
+starts-with xs old new n e h = ap (take n) (e ∙ overwrite-start old new) ∙ take-at new (drop (length new) old) n h
+
+-- and the list keeps its length
+pub as-long : (xs old new : List ℕ) (n : ℕ) → xs ≡ overwrite old 0 new → length new ≡ n → n ≤ length old → length xs ≡ length old
+as-long xs old new n e h k = ap length e ∙ overwrite-length old 0 new (omega arith)
 
 -- entries replaced one by one are a start that is overwritten
 pub replaced-overwrites : (f : ℕ → ℕ) (source before : List ℕ) (n : ℕ) → n ≤ length source

@@ -2,10 +2,11 @@
 use mathlib.Core.Bool.{Bool, true, false, cond, _||_, _&&_, not}
 use mathlib.Core.Logic.{_⊎_, _≢_, inl, inr}
 use mathlib.Core.Path.{_≡_, refl, sym, ap, _∙_}
-use Prim.Native.Nat.{ℕ, _<_, _≤_}
+use Prim.Native.Nat.{ℕ, zero, suc, _<_, _≤_}
 use native.Mathlib.Omega.{arith}
 use lib.Dec.{eqb, ltb, leb}
-use borrow.Author.Tests.{ltb-true, ltb-false, eqb-true, eqb-false, lt-ltb, le-ltb, eq-eqb, ne-eqb}
+use borrow.Author.Tests.{ltb-true, ltb-false, leb-true, eqb-true, eqb-false, lt-ltb, le-ltb, lt-leb, le-leb, eq-eqb, ne-eqb}
+use Rattle.lists.specs.Lists.{nonzero, lies}
 
 -- Both cases of a test, each with what it says.
 pub by-test : {C : Type 0} (b : Bool) → (b ≡ true → C) → (b ≡ false → C) → C
@@ -73,3 +74,35 @@ compared a b =
     by-test (eqb a b)
     (λ e. let i = eqb-true a b e in same e h (le-ltb b a (omega arith)) i)
     (λ e. let i : a ≢ b = eqb-false a b e in more e h (lt-ltb b a (omega arith)) (omega arith)))
+
+-- ---- numbers that are not zero
+pub nonzero-when : (n : ℕ) → 1 ≤ n → nonzero n ≡ true
+nonzero-when n h = ap not (ne-eqb n 0 (λ e. omega arith))
+
+pub nonzero-says : (n : ℕ) → nonzero n ≡ true → 1 ≤ n
+nonzero-says zero h = absurd (true-or-false false h refl)
+nonzero-says (suc n) h = omega arith
+
+pub zero-fails : (n : ℕ) → n ≡ 0 → nonzero n ≡ false
+zero-fails n e = ap not (eq-eqb n 0 e)
+
+-- ---- numbers from one to another
+module _ (low high n : ℕ) where
+  pub lies-below : n < low → lies low high n ≡ false
+  unfolding lies
+  lies-below h = rw (lt-leb low n h)
+
+  pub lies-above : high < n → lies low high n ≡ false
+  unfolding lies
+  lies-above h = and-false-right (leb low n) (leb n high) (lt-leb n high h)
+
+  pub lies-upto : low ≤ n → lies low high n ≡ leb n high
+  unfolding lies
+  lies-upto h = rw (le-leb low n h)
+
+  pub lies-when : low ≤ n → n ≤ high → lies low high n ≡ true
+  lies-when h k = lies-upto h ∙ le-leb n high k
+
+  pub lies-says : lies low high n ≡ true → (low ≤ n) × (n ≤ high)
+  unfolding lies
+  lies-says t = (leb-true low n (and-left (leb low n) (leb n high) t), leb-true n high (and-right (leb low n) (leb n high) t))

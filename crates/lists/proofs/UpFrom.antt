@@ -1,4 +1,4 @@
--- Laws of `upFrom`, the numbers from a start on. Assumes nothing.
+-- Laws of `upFrom`, the numbers from a start on, and of maps over them. Assumes nothing.
 use mathlib.Core.Bool.{Bool, true, false, _||_}
 use mathlib.Core.List.{List, [], _∷_, _++_, map}
 use mathlib.Core.Logic.{_≢_}
@@ -52,3 +52,12 @@ upFrom-at a (suc n) (suc i) d h = upFrom-at (suc a) n i d (omega arith) ∙ suc-
 pub upFrom-shifted : (a n : ℕ) → map suc (upFrom a n) ≡ upFrom (suc a) n
 upFrom-shifted a zero = refl
 upFrom-shifted a (suc n) = ap (λ (xs : List ℕ). suc a ∷ xs) (upFrom-shifted (suc a) n)
+
+-- ---- a map read at an index
+pub mapped-at : (f : ℕ → ℕ) (xs : List ℕ) (i : ℕ) → i < length xs → getD (map f xs) i 0 ≡ f (getD xs i 0)
+mapped-at f [] i h = absurd (omega arith)
+mapped-at f (x ∷ xs) zero h = refl
+mapped-at f (x ∷ xs) (suc i) h = mapped-at f xs i (omega arith)
+
+pub mapped-upFrom-at : (f : ℕ → ℕ) (a n i : ℕ) → i < n → getD (map f (upFrom a n)) i 0 ≡ f (a + i)
+mapped-upFrom-at f a n i h = mapped-at f (upFrom a n) i (omega (arith, upFrom-length a n)) ∙ ap f (upFrom-at a n i 0 h)

@@ -3,7 +3,7 @@
 use mathlib.Core.Bool.{Bool, true, false, cond, _||_, _&&_, not}
 use mathlib.Core.List.{List, [], _∷_, _++_}
 use Prim.Native.Nat.{ℕ, zero, suc, _+_, _<_}
-use lib.Dec.{eqb, ltb}
+use lib.Dec.{eqb, ltb, leb}
 use lib.ListN.{length, take, drop}
 
 module _ {A : Type 0} where
@@ -50,6 +50,14 @@ module _ {A : Type 0} where
   -- The list with the elements from index `at` on replaced by those of `new`.
   unfoldable pub overwrite : List A → ℕ → List A → List A
   overwrite old at new = take at old ++ (new ++ drop (at + length new) old)
+
+-- The number is not zero.
+abbrev pub nonzero : ℕ → Bool
+nonzero n = not (eqb n 0)
+
+-- "from low to high, both included"
+unfoldable pub lies : ℕ → ℕ → ℕ → Bool
+lies low high n = leb low n && leb n high
 
 -- `x` is one of the numbers of the list.
 abbrev pub member : ℕ → List ℕ → Bool

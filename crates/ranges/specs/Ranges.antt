@@ -1,13 +1,7 @@
 -- The keys of a range. Assumes nothing.
-use mathlib.Core.Bool.{Bool, _&&_}
 use mathlib.Core.List.{List}
 use Prim.Native.Nat.{ℕ}
-use lib.Dec.{leb}
-use Rattle.lists.specs.Lists.{keep}
-
--- "from low to high, both included"
-unfoldable pub lies : ℕ → ℕ → ℕ → Bool
-lies low high key = leb low key && leb key high
+use Rattle.lists.specs.Lists.{lies, keep}
 
 -- "the held keys from low to high, both included, rising"
 unfoldable pub within : ℕ → ℕ → List ℕ → List ℕ

@@ -2,8 +2,8 @@
 ghost use mathlib.Core.Path.{_≡_};
 ghost use Prim.Native.Nat.{_≤_};
 ghost use lib.ListN.{length, take};
-ghost use Rattle.lists.specs.Lists.{overwrite};
-ghost use Rattle.ranges.specs.Ranges.{lies, within};
+ghost use Rattle.lists.specs.Lists.{lies, overwrite};
+ghost use Rattle.ranges.specs.Ranges.{within};
 
 // Whether a key lies from `low` to `high`, both included. Internal to this library's crates.
 pub fn is_within(key: u64, low: u64, high: u64) -> bool

@@ -8,15 +8,14 @@ use native.Mathlib.Nat.{zero-add}
 use native.Mathlib.Omega.{arith}
 use lib.Dec.{eqb, ltb}
 use borrow.Author.Tests.{eq-eqb, ne-eqb, lt-ltb, le-ltb, eqb-true, eqb-false, ltb-true, ltb-false}
-use Rattle.lists.specs.Lists.{All, Pairwise, consIf, first, keep, insertBy, sortBy, upFrom}
-use Rattle.lists.proofs.Tests.{by-test, true-or-false, or-true-left, or-true-right, and-false-right}
+use Rattle.lists.specs.Lists.{All, Pairwise, consIf, first, keep, insertBy, sortBy, upFrom, lies, nonzero}
+use Rattle.lists.proofs.Tests.{by-test, or-true-left, or-true-right, nonzero-says}
 use Rattle.lists.proofs.Keep.{keep-append, all-map, kept-pass}
 use Rattle.lists.proofs.Membership.{first-found}
 use Rattle.lists.proofs.Sorted.{sorted-all, sorted-ordered, sorted-more}
 use Rattle.lists.proofs.UpFrom.{upFrom-end}
 use Rattle.table.specs.Layout.{keyIn, slotKeys}
 use Rattle.table.specs.Table.{contentsOf}
-use Rattle.ranges.specs.Ranges.{lies}
 use Rattle.seek.specs.Seek.{leastWithin, lesser}
 
 -- ---- a key put in its place among others
@@ -55,38 +54,34 @@ module _ (words : List ℕ) (slot : ℕ) where
   unfolding slotKeys
   slot-more = ap (map (keyIn words)) (upFrom-end 0 slot) ∙ map-append (keyIn words) (upFrom 0 slot) ((0 + slot) ∷ []) ∙ ap (λ (s : ℕ). map (keyIn words) (upFrom 0 slot) ++ (keyIn words s ∷ [])) (zero-add slot)
 
-  held-more : keep (λ k. not (eqb k 0)) (slotKeys (suc slot) words) ≡ keep (λ k. not (eqb k 0)) (slotKeys slot words) ++ keep (λ k. not (eqb k 0)) (keyIn words slot ∷ [])
-  held-more = ap (keep (λ k. not (eqb k 0))) slot-more ∙ keep-append (λ k. not (eqb k 0)) (slotKeys slot words) (keyIn words slot ∷ [])
+  held-more : keep nonzero (slotKeys (suc slot) words) ≡ keep nonzero (slotKeys slot words) ++ keep nonzero (keyIn words slot ∷ [])
+  held-more = ap (keep nonzero) slot-more ∙ keep-append nonzero (slotKeys slot words) (keyIn words slot ∷ [])
 
   shown-same : keyIn words slot ≡ 0 → contentsOf (suc slot) words .keys ≡ contentsOf slot words .keys
   unfolding contentsOf
   shown-same e =
       ap (sortBy ltb)
       (held-more
-      ∙ ap (λ (k : ℕ). keep (λ k. not (eqb k 0)) (slotKeys slot words) ++ keep (λ k. not (eqb k 0)) (k ∷ [])) e
-      ∙ append-nil (keep (λ k. not (eqb k 0)) (slotKeys slot words)))
+      ∙ ap (λ (k : ℕ). keep nonzero (slotKeys slot words) ++ keep nonzero (k ∷ [])) e
+      ∙ append-nil (keep nonzero (slotKeys slot words)))
 
   shown-more : keyIn words slot ≢ 0 → contentsOf (suc slot) words .keys ≡ insertBy ltb (keyIn words slot) (contentsOf slot words .keys)
   unfolding contentsOf
   shown-more d =
       ap (sortBy ltb)
       (held-more
-      ∙ ap (λ b. keep (λ k. not (eqb k 0)) (slotKeys slot words) ++ consIf (not b) (keyIn words slot) []) (ne-eqb (keyIn words slot) 0 d))
-      ∙ sorted-more (keep (λ k. not (eqb k 0)) (slotKeys slot words)) (keyIn words slot)
+      ∙ ap (λ b. keep nonzero (slotKeys slot words) ++ consIf (not b) (keyIn words slot) []) (ne-eqb (keyIn words slot) 0 d))
+      ∙ sorted-more (keep nonzero (slotKeys slot words)) (keyIn words slot)
 
   shown-sorted : Pairwise _≤_ (contentsOf slot words .keys)
   unfolding contentsOf
-  shown-sorted = sorted-ordered (keep (λ k. not (eqb k 0)) (slotKeys slot words))
+  shown-sorted = sorted-ordered (keep nonzero (slotKeys slot words))
 
   shown-some : All (λ k. 1 ≤ k) (contentsOf slot words .keys)
   unfolding contentsOf
   shown-some =
-      sorted-all (λ k. 1 ≤ k) (keep (λ k. not (eqb k 0)) (slotKeys slot words))
-      (all-map (λ k. not (eqb k 0) ≡ true) (λ k. 1 ≤ k) positive (keep (λ k. not (eqb k 0)) (slotKeys slot words)) (kept-pass (λ k. not (eqb k 0)) (slotKeys slot words)))
-    where
-      positive : (k : ℕ) → not (eqb k 0) ≡ true → 1 ≤ k
-      positive zero e = absurd (true-or-false false e refl)
-      positive (suc k) e = omega arith
+      sorted-all (λ k. 1 ≤ k) (keep nonzero (slotKeys slot words))
+      (all-map (λ k. nonzero k ≡ true) (λ k. 1 ≤ k) nonzero-says (keep nonzero (slotKeys slot words)) (kept-pass nonzero (slotKeys slot words)))
 
   -- the least key of a slot more
   pub least-more : (low high : ℕ) → leastWithin low high (contentsOf (suc slot) words .keys) ≡ lesser low high (leastWithin low high (contentsOf slot words .keys)) (keyIn words slot)

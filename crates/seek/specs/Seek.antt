@@ -1,10 +1,9 @@
 -- The least key of a range. Assumes nothing.
-use mathlib.Core.Bool.{Bool, cond, _&&_, _||_, not}
+use mathlib.Core.Bool.{cond, _&&_, _||_}
 use mathlib.Core.List.{List}
 use Prim.Native.Nat.{ℕ}
 use lib.Dec.{eqb, ltb}
-use Rattle.lists.specs.Lists.{first}
-use Rattle.ranges.specs.Ranges.{lies}
+use Rattle.lists.specs.Lists.{first, lies, nonzero}
 
 -- "the least held key from next to high": of rising keys the first that lies there; zero where none does.
 unfoldable pub leastWithin : ℕ → ℕ → List ℕ → ℕ
@@ -12,4 +11,4 @@ leastWithin low high keys = first 0 (lies low high) keys
 
 -- Of the least key found and a word of a slot, the least; zero stands for no key.
 unfoldable pub lesser : ℕ → ℕ → ℕ → ℕ → ℕ
-lesser low high least key = cond (not (eqb key 0) && (lies low high key && (eqb least 0 || ltb key least))) key least
+lesser low high least key = cond (nonzero key && (lies low high key && (eqb least 0 || ltb key least))) key least

@@ -1,6 +1,5 @@
 -- The keys in the slots after placing: those placed, each as often, and no other. Assumes keys none of which is zero, and
 -- a slot for each.
-use mathlib.Core.Bool.{not}
 use mathlib.Core.List.{List, [], _∷_, _++_, List·Permᴰ, Permᴰ·refl, Permᴰ·symm, Permᴰ·append-left, Permᴰ·middle, Permᴰ·append-nil}
 use mathlib.Core.List.List·Permᴰ.{List·Permᴰ·cons, List·Permᴰ·swap, List·Permᴰ·trans}
 use mathlib.Core.Logic.{_≢_}
@@ -10,7 +9,7 @@ use native.Mathlib.Omega.{arith}
 use lib.Dec.{eqb}
 use lib.ListN.{length, getD, set, replicate, length-set, length-replicate}
 use borrow.Author.Tests.{eq-eqb, ne-eqb}
-use Rattle.lists.specs.Lists.{keep, sortBy, All}
+use Rattle.lists.specs.Lists.{nonzero, keep, sortBy, All}
 use Rattle.lists.proofs.Tests.{by-test}
 use Rattle.lists.proofs.Keep.{all-always}
 use Rattle.lists.proofs.Sorting.{all-permuted, length-permuted, sortBy-permutes}
@@ -23,7 +22,7 @@ use Rattle.table.specs.Table.{homeIn}
 
 -- The keys in the slots that are not empty.
 abbrev pub held : List ℕ → List ℕ
-held slots = keep (λ k. not (eqb k 0)) slots
+held slots = keep nonzero slots
 
 held-set : (slots : List ℕ) (i v : ℕ) → i < length slots → getD slots i 0 ≡ 0 → v ≢ 0 → List·Permᴰ (held (set slots i v)) (v ∷ held slots)
 held-set [] i v h z d = absurd (omega arith)

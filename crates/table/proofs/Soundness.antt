@@ -1,13 +1,12 @@
 -- `soundWith` decides soundness. Assumes a number of slots that a table may have, and words that are 64-bit numbers.
-use mathlib.Core.Bool.{true, false, _&&_, not}
+use mathlib.Core.Bool.{true, _&&_}
 use mathlib.Core.List.{List}
 use mathlib.Core.Path.{_≡_, refl, ap, _∙_, subst}
-use Prim.Native.Nat.{ℕ, zero, suc, _+_, _^_, _≤_, _<_}
+use Prim.Native.Nat.{ℕ, _+_, _^_, _≤_, _<_}
 use native.Mathlib.Omega.{arith}
-use lib.Dec.{eqb}
 use lib.ListN.{length, getD, length-map}
-use Rattle.lists.specs.Lists.{All, same, upFrom, risesB}
-use Rattle.lists.proofs.Tests.{true-or-false, and-left, and-right, and-both}
+use Rattle.lists.specs.Lists.{nonzero, All, same, upFrom, risesB}
+use Rattle.lists.proofs.Tests.{nonzero-says, and-left, and-right, and-both}
 use Rattle.lists.proofs.Keep.{all-map, all-both, all-always, all-mapped, all-keep, kept-pass, length-keep}
 use Rattle.lists.proofs.Membership.{same-says, same-when}
 use Rattle.lists.proofs.Rising.{rises-says, rises-when}
@@ -30,11 +29,7 @@ pub shown-fit : (many : ℕ) (words : List ℕ) → length (contentsOf many word
 unfolding contentsOf
 shown-fit many words =
     let slots = slotKeys many words in
-    omega (arith, sorted-length (held slots), length-keep (λ k. not (eqb k 0)) slots, slotKeys-length many words)
-
-held-positive : (k : ℕ) → not (eqb k 0) ≡ true → 1 ≤ k
-held-positive zero h = absurd (true-or-false false h refl)
-held-positive (suc k) h = omega arith
+    omega (arith, sorted-length (held slots), length-keep nonzero slots, slotKeys-length many words)
 
 -- Every word is a 64-bit number.
 abbrev pub WordSized : List ℕ → Type 0
@@ -51,9 +46,9 @@ unfolding contentsOf
 shown-keys many words bounded =
     let slots = slotKeys many words in
     sorted-all IsKey (held slots)
-    (all-map (λ k. (not (eqb k 0) ≡ true) × (k < 2 ^ 64)) IsKey (λ k h. (held-positive k (h .0), h .1)) (held slots)
-    (all-both (λ k. not (eqb k 0) ≡ true) (λ k. k < 2 ^ 64) (held slots) (kept-pass (λ k. not (eqb k 0)) slots)
-    (all-keep (λ k. k < 2 ^ 64) (λ k. not (eqb k 0)) slots (slotKeys-bounded many words bounded))))
+    (all-map (λ k. (nonzero k ≡ true) × (k < 2 ^ 64)) IsKey (λ k h. (nonzero-says k (h .0), h .1)) (held slots)
+    (all-both (λ k. nonzero k ≡ true) (λ k. k < 2 ^ 64) (held slots) (kept-pass nonzero slots)
+    (all-keep (λ k. k < 2 ^ 64) nonzero slots (slotKeys-bounded many words bounded))))
 
 -- ---- the test
 module _ (many : ℕ) (words : List ℕ) (passed : soundWith many words ≡ true) where

@@ -1,11 +1,11 @@
 -- The words of a table, from what it holds, and back; which tables are sound. Assumes nothing.
-use mathlib.Core.Bool.{Bool, true, false, cond, _&&_, not}
+use mathlib.Core.Bool.{cond}
 use mathlib.Core.List.{List, [], _∷_, _++_, flatMap}
 use mathlib.Core.Path.{_≡_}
 use Prim.Native.Nat.{ℕ, _≤_}
 use lib.Dec.{eqb, ltb}
 use lib.ListN.{length, getD, replicate}
-use Rattle.lists.specs.Lists.{keep, sortBy}
+use Rattle.lists.specs.Lists.{nonzero, keep, sortBy}
 use Rattle.priority.specs.Priority.{priorityOf, homeOf}
 use Rattle.treap.specs.Treap.{top, leftLink, rightLink}
 use Rattle.treap.specs.Levels.{rank, count, leader}
@@ -49,4 +49,4 @@ pub record Sound (words : List ℕ) : Type 0 where
 -- The order and the set that a table of so many slots shows: its order word, and the keys in its slots, sorted.
 unfoldable pub contentsOf : ℕ → List ℕ → Contents
 contentsOf many words =
-    record { order = getD words orderWord 0; keys = sortBy ltb (keep (λ k. not (eqb k 0)) (slotKeys many words)) }
+    record { order = getD words orderWord 0; keys = sortBy ltb (keep nonzero (slotKeys many words)) }

@@ -7,7 +7,8 @@ use Rattle.treap.specs.Treap.{leftLink, rightLink}
 use Rattle.treap.specs.Levels.{rank, count, leader}
 use Rattle.columns.specs.Positions.{positions, weightAt}
 use Rattle.columns.specs.Columns.{leftColumn, rightColumn, rankColumn, countColumn, leaderColumn, Ready}
-use Rattle.assemble.proofs.Filling.{starts-with, starts-and, as-long, column-length}
+use Rattle.lists.proofs.Start.{starts-with, starts-and, as-long}
+use Rattle.columns.proofs.Filled.{column-length}
 use borrow.Author.Needs.{needs}
 use Rattle.assemble.proofs.fill.Statement.{statement}
 use Rattle.assemble.proofs.fill.Tie as tie

@@ -5,7 +5,7 @@ use lib.ListN.{length, take, length-map}
 use Rattle.priority.specs.Priority.{priorityOf}
 use Rattle.sorting.specs.ByWeight.{byWeight}
 use Rattle.sorting.proofs.ByWeight.{byWeight-length}
-use Rattle.assemble.proofs.Filling.{starts-and}
+use Rattle.lists.proofs.Start.{starts-and}
 use borrow.Author.Needs.{needs}
 use Rattle.assemble.proofs.prioritize.Statement.{statement}
 use Rattle.assemble.proofs.prioritize.Tie as tie

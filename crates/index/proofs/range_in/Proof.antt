@@ -1,11 +1,10 @@
 -- `index::range_in` meets its contract. Assumes nothing.
 use mathlib.Core.Bool.{true}
-use mathlib.Core.Path.{_≡_, sym, ap, _∙_}
+use mathlib.Core.Path.{_≡_, refl, sym, ap, _∙_}
 use Prim.Native.Nat.{_≤_}
 use native.Mathlib.Omega.{arith}
 use lib.ListN.{length, take}
-use Rattle.lists.proofs.Overwrite.{overwrite-length}
-use Rattle.lists.proofs.Start.{take-overwritten}
+use Rattle.lists.proofs.Start.{starts-with, as-long}
 use Rattle.table.specs.Table.{contentsOf}
 use Rattle.table.specs.Sound.{soundWith}
 use Rattle.table.proofs.Soundness.{shown-fit}
@@ -36,15 +35,18 @@ taken : (p : tie.After-found) → take (p .found .given .0 .0) (p .before .befor
 taken p =
     let start = p .before .before .before .before .before .before .before .before .before in
     let n = p .found .given .0 .0 in
-    ap (take n) (p .before .before .before .before .examine-sized .ensures .1 (is-sound p))
-    ∙ take-overwritten (start .args .keys .now) (contentsOf (start .args .many) (start .args .table .now) .keys) n (sym (size p))
+    starts-with (p .before .before .before .before .examine-sized .last .1 .1 .0) (start .args .keys .now) (contentsOf (start .args .many) (start .args .table .now) .keys) n
+    (p .before .before .before .before .examine-sized .ensures .1 (is-sound p)) (sym (size p))
 
 fits : (p : tie.After-found) → p .found .given .0 .0 ≤ length (p .before .before .before .before .examine-sized .last .1 .1 .0)
 fits p =
     let start = p .before .before .before .before .before .before .before .before .before in
     let keys = contentsOf (start .args .many) (start .args .table .now) .keys in
     let few = shown-fit (start .args .many) (start .args .table .now) in
-    let long = ap length (p .before .before .before .before .examine-sized .ensures .1 (is-sound p)) ∙ overwrite-length (start .args .keys .now) 0 keys (omega (arith, few, start .pre .4)) in
+    let long =
+    as-long (p .before .before .before .before .examine-sized .last .1 .1 .0) (start .args .keys .now) keys (length keys)
+    (p .before .before .before .before .examine-sized .ensures .1 (is-sound p)) refl (omega (arith, few, start .pre .4))
+    in
     omega (arith, few, long, size p, start .pre .4)
 
 examine-sized-requires : tie.Need-examine-sized-requires

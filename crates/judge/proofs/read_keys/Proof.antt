@@ -5,10 +5,10 @@ use lib.Dec.{ltb}
 use lib.ListN.{length, take}
 use Rattle.lists.specs.Lists.{overwrite, sortBy}
 use Rattle.lists.proofs.Sorted.{sorted-length}
+use Rattle.lists.proofs.Start.{starts-with, as-long}
 use Rattle.table.specs.Table.{contentsOf}
 use Rattle.decode.specs.Decode.{heldKeys}
 use Rattle.decode.proofs.Held.{held-most, contents-keys}
-use Rattle.assemble.proofs.Filling.{starts-with, as-long}
 use borrow.Author.Needs.{needs}
 use Rattle.judge.proofs.read_keys.Statement.{statement}
 use Rattle.judge.proofs.read_keys.Tie as tie

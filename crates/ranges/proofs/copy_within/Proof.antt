@@ -1,16 +1,15 @@
 -- `ranges::copy_within` meets its contract. The loop's invariant: the keys of the range among those passed are copied. Assumes nothing.
 use mathlib.Core.List.{List}
 use mathlib.Core.Logic.{⊎-elim}
-use mathlib.Core.Path.{_≡_, sym, ap, _∙_, subst₃}
-use Prim.Native.Nat.{ℕ, _-_, _<_}
+use mathlib.Core.Path.{_≡_, refl, sym, _∙_, subst₃}
+use Prim.Native.Nat.{ℕ, _-_, _<_, _≤_}
 use native.Mathlib.Numerals.{add-one}
 use native.Mathlib.Omega.{arith}
-use lib.ListN.{length}
+use lib.ListN.{length, getD}
 use borrow.Author.Needs.{needs}
-use Rattle.lists.specs.Lists.{overwrite}
-use Rattle.ranges.specs.Ranges.{lies, within}
-use Rattle.ranges.proofs.Kept.{upTo}
-use Rattle.ranges.proofs.Copied.{Copied, copied-none, copied-size, copied-room, copied-more, copied-same}
+use Rattle.lists.specs.Lists.{lies}
+use Rattle.lists.proofs.Copying.{kept, Copied, copied-none, copied-all, copied-size, copied-room, copied-more, copied-same}
+use Rattle.ranges.specs.Ranges.{within}
 use Rattle.ranges.proofs.copy_within.Statement.{statement}
 use Rattle.ranges.proofs.copy_within.Tie as tie
 use Rattle.ranges.proofs.copy_within.Reads as reads
@@ -18,25 +17,35 @@ use Rattle.ranges.proofs.copy_within.Lts as lts
 use Rattle.ranges.proofs.is_within.Reads as is-within-reads
 
 abbrev Inv-loop : tie.InvT-loop
-Inv-loop keys n low high output₀ at₀ i₀ output at i = Copied low high keys output₀ n output at i
+Inv-loop keys n low high output₀ at₀ i₀ output at i = Copied (lies low high) keys output₀ n output at i
 
 abbrev μ-loop : tie.MeasureT-loop
 μ-loop keys n low high output₀ at₀ i₀ output at i = n - i
 
+-- there is room for all keys of the range
+all-fit : (start : tie.Start Inv-loop μ-loop) →
+    length (kept (lies (start .args .low) (start .args .high)) (start .args .keys .now) (start .args .n)) ≤ length (start .args .output .now)
+unfolding within
+all-fit start = start .pre .1
+
 size : (c : tie.At-loop Inv-loop μ-loop) → length (c .loop .output) ≡ length (c .before .before .before .args .output .now)
-size c = let pre = c .before .before .before .pre in copied-size (pre .0) (pre .1) (c .loop .inv)
+size c = copied-size (c .loop .inv) (all-fit (c .before .before .before))
 
 -- the key that is copied has room
 room : (c : tie.Then1 Inv-loop μ-loop) → c .before .before .before .before .loop .at < length (c .before .before .before .before .loop .output)
 room c =
     let turn = c .before .before .before in
     let loop = turn .before .loop in
-    let pre = turn .before .before .before .before .pre in
+    let start = turn .before .before .before .before in
     let told = c .before .is-within .ensures in
-    omega (arith, size (turn .before), copied-room (pre .0) (pre .1) (loop .inv) (turn .loop-test .taken) (sym told ∙ c .if1 .taken))
+    let h =
+    copied-room (loop .inv) (all-fit start) (start .pre .0) (getD (start .args .keys .now) (loop .i) 0) refl (turn .loop-test .taken)
+    (sym told ∙ c .if1 .taken)
+    in
+    omega (arith, size (turn .before))
 
 loop-holds : tie.Need-loop-holds Inv-loop μ-loop
-loop-holds c = let args = c .before .before .args in copied-none (args .low) (args .high) (args .keys .now) (args .output .now) (args .n)
+loop-holds c = let args = c .before .before .args in copied-none (lies (args .low) (args .high)) (args .keys .now) (args .output .now) (args .n)
 
 mul-key : tie.Need-mul-key Inv-loop μ-loop
 mul-key c = search needs
@@ -67,31 +76,25 @@ loop-again c =
     let turn = c .before .before .before in
     let loop = turn .before .loop in
     let start = turn .before .before .before .before in
-    let fit = start .pre .0 in
-    let room = start .pre .1 in
     let more = turn .loop-test .taken in
+    let key = getD (start .args .keys .now) (loop .i) 0 in
     let told = c .before .is-within .ensures in
     let Next : List ℕ → ℕ → ℕ → Type 0 =
-    Copied (start .args .low) (start .args .high) (start .args .keys .now) (start .args .output .now) (start .args .n)
+    Copied (lies (start .args .low) (start .args .high)) (start .args .keys .now) (start .args .output .now) (start .args .n)
     in
     ⊎-elim
     (λ w.
     subst₃ Next (sym (w .1)) (sym (w .2 ∙ add-one (loop .at))) (sym (add-one (loop .i)))
-    (copied-more fit room (loop .inv) more (sym told ∙ w .0 .taken)))
-    (λ w. subst₃ Next (sym (w .1)) (sym (w .2)) (sym (add-one (loop .i))) (copied-same fit room (loop .inv) more (sym told ∙ w .0 .left)))
+    (copied-more (loop .inv) (all-fit start) (start .pre .0) key refl more (sym told ∙ w .0 .taken)))
+    (λ w. subst₃ Next (sym (w .1)) (sym (w .2)) (sym (add-one (loop .i))) (copied-same (loop .inv) (all-fit start) (start .pre .0) key refl more (sym told ∙ w .0 .left)))
     (c .if1 .came)
 
 same-length : tie.Need-same-length Inv-loop μ-loop
 same-length c = size (c .before)
 
 returns : tie.Need-returns Inv-loop μ-loop
-returns c =
-    let start = c .before .before .before .before in
-    let loop = c .before .loop in
-    let upto = loop .inv .counted .upto in
-    let whole : loop .i ≡ start .args .n = omega arith in
-    loop .inv .holds
-    ∙ ap (λ (i : ℕ). overwrite (start .args .output .now) 0 (upTo (start .args .low) (start .args .high) (start .args .keys .now) i)) whole
+unfolding within
+returns c = copied-all (c .before .loop .inv) (c .loop-test .left)
 
 pub copy-within-spec : {M : Type 1} → statement M
 copy-within-spec =

@@ -1,14 +1,14 @@
 -- `ranges::count_within` meets its contract. The loop's invariant: the keys of the range among those passed are counted. Assumes nothing.
 use mathlib.Core.Logic.{⊎-elim}
-use mathlib.Core.Path.{_≡_, sym, ap, _∙_, subst₂}
-use Prim.Native.Nat.{ℕ, _-_, _<_}
+use mathlib.Core.Path.{refl, sym, _∙_, subst₂}
+use Prim.Native.Nat.{ℕ, _-_}
 use native.Mathlib.Numerals.{add-one}
 use native.Mathlib.Omega.{arith}
-use lib.ListN.{length}
+use lib.ListN.{getD}
 use borrow.Author.Needs.{needs}
-use Rattle.ranges.specs.Ranges.{lies, within}
-use Rattle.ranges.proofs.Kept.{upTo}
-use Rattle.ranges.proofs.Copied.{Counted, counted-none, counted-few, counted-more, counted-same}
+use Rattle.lists.specs.Lists.{lies}
+use Rattle.lists.proofs.Copying.{Counted, counted-none, counted-few, counted-all, counted-more, counted-same}
+use Rattle.ranges.specs.Ranges.{within}
 use Rattle.ranges.proofs.count_within.Statement.{statement}
 use Rattle.ranges.proofs.count_within.Tie as tie
 use Rattle.ranges.proofs.count_within.Reads as reads
@@ -16,13 +16,13 @@ use Rattle.ranges.proofs.count_within.Lts as lts
 use Rattle.ranges.proofs.is_within.Reads as is-within-reads
 
 abbrev Inv-loop : tie.InvT-loop
-Inv-loop keys n low high many₀ i₀ many i = Counted low high keys n many i
+Inv-loop keys n low high many₀ i₀ many i = Counted (lies low high) keys n many i
 
 abbrev μ-loop : tie.MeasureT-loop
 μ-loop keys n low high many₀ i₀ many i = n - i
 
 loop-holds : tie.Need-loop-holds Inv-loop μ-loop
-loop-holds c = let args = c .before .args in counted-none (args .low) (args .high) (args .keys .now) (args .n)
+loop-holds c = let args = c .before .args in counted-none (lies (args .low) (args .high)) (args .keys .now) (args .n)
 
 mul-is-within : tie.Need-mul-is-within Inv-loop μ-loop
 mul-is-within c = search needs
@@ -37,7 +37,7 @@ add-many : tie.Need-add-many Inv-loop μ-loop
 add-many c =
     let turn = c .before .before .before in
     let start = turn .before .before .before in
-    let few = counted-few (start .pre) (turn .before .loop .inv) in
+    let few = counted-few (turn .before .loop .inv) in
     omega (arith, few, turn .loop-test .taken, start .fits .n)
 
 add-i : tie.Need-add-i Inv-loop μ-loop
@@ -53,21 +53,17 @@ loop-again c =
     let start = turn .before .before .before in
     let more = turn .loop-test .taken in
     let told = c .before .is-within .ensures in
-    let Next : ℕ → ℕ → Type 0 = Counted (start .args .low) (start .args .high) (start .args .keys .now) (start .args .n) in
+    let Next : ℕ → ℕ → Type 0 = Counted (lies (start .args .low) (start .args .high)) (start .args .keys .now) (start .args .n) in
     ⊎-elim
     (λ w.
     subst₂ Next (sym (w .1 ∙ add-one (loop .many))) (sym (add-one (loop .i)))
-    (counted-more (start .pre) (loop .inv) more (sym told ∙ w .0 .taken)))
-    (λ w. subst₂ Next (sym (w .1)) (sym (add-one (loop .i))) (counted-same (start .pre) (loop .inv) more (sym told ∙ w .0 .left)))
+    (counted-more (loop .inv) (start .pre) (getD (start .args .keys .now) (loop .i) 0) refl more (sym told ∙ w .0 .taken)))
+    (λ w. subst₂ Next (sym (w .1)) (sym (add-one (loop .i))) (counted-same (loop .inv) (start .pre) (getD (start .args .keys .now) (loop .i) 0) refl more (sym told ∙ w .0 .left)))
     (c .if1 .came)
 
 returns : tie.Need-returns Inv-loop μ-loop
-returns c =
-    let start = c .before .before .before in
-    let loop = c .before .loop in
-    let upto = loop .inv .upto in
-    let whole : loop .i ≡ start .args .n = omega arith in
-    loop .inv .count ∙ ap (λ (i : ℕ). length (upTo (start .args .low) (start .args .high) (start .args .keys .now) i)) whole
+unfolding within
+returns c = counted-all (c .before .loop .inv) (c .loop-test .left)
 
 pub count-within-spec : {M : Type 1} → statement M
 count-within-spec =

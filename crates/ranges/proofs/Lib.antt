@@ -1,3 +1,0 @@
--- Laws of ranges.
-pub mod Kept
-mod Copied
