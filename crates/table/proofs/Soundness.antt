@@ -80,7 +80,7 @@ module _ (many : ℕ) (words : List ℕ) (passed : soundWith many words ≡ true
         exactly = sound-exactly;
       }
 
-fresh-passes : (many : ℕ) (c : Contents) → 1 ≤ many → Valid many c → soundWith many (fresh many c) ≡ true
+pub fresh-passes : (many : ℕ) (c : Contents) → 1 ≤ many → Valid many c → soundWith many (fresh many c) ≡ true
 unfolding soundWith
 fresh-passes many c some valid =
     rw (contents-of-fresh many c some valid)

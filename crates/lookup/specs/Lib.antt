@@ -1,0 +1,2 @@
+-- The answer of a lookup.
+pub mod Lookup
