@@ -13,15 +13,14 @@ use Rattle.table.specs.Contents.{Contents}
 use Rattle.table.specs.Layout.{mostSlots, tableWords}
 use Rattle.table.specs.Table.{contentsOf}
 use Rattle.table.specs.Sound.{soundWith}
-use Rattle.judge.specs.Judge.{slotsFor, isSound}
-use Rattle.judge.proofs.Lengths.{slots-for-is}
-use Rattle.judge.proofs.Verdicts.{decided-with}
+use Rattle.judge.specs.Judge.{slotsFor}
 use Rattle.ranges.specs.Ranges.{within}
 use Rattle.replies.specs.Replies.{rangedOf}
 use Rattle.replies.specs.declared.Refusal.the-variants.{WrongLength, LowAboveHigh, NotSound, OutputTooShort}
 use Rattle.replies.specs.declared.Ranged.{Ranged}
 use Rattle.replies.specs.declared.Ranged.the-variants.{Wrote, Refused}
 use Rattle.calls.specs.Reasons.{wrongLength, lowAboveHigh, notSound, outputTooShort, shown}
+use Rattle.calls.proofs.Judged.{right-length, judged, shown-is}
 use Rattle.calls.specs.Calls.{rangeRefusal, rangeReply, rangeOutput}
 
 module _ (words : List ℕ) (low high : ℕ) (output : List ℕ) where
@@ -41,44 +40,34 @@ module _ (words : List ℕ) (low high : ℕ) (output : List ℕ) where
       (rw (r, above), rw (r, above))
 
   module _ (many : ℕ) (some : 0 < many) (most : many ≤ mostSlots) (long : length words ≡ tableWords many) (ordered : low ≤ high) where
-    here : slotsFor (length words) ≡ many
-    here = slots-for-is (length words) many some most long
-
-    right-length : eqb (slotsFor (length words)) 0 ≡ false
-    right-length = ne-eqb (slotsFor (length words)) 0 (λ e. let h = here in omega arith)
+    slots-right : eqb (slotsFor (length words)) 0 ≡ false
+    slots-right = right-length words many some most long
 
     in-order : ltb high low ≡ false
     in-order = le-ltb high low ordered
 
-    judged : (b : Bool) → soundWith many words ≡ b → isSound words ≡ b
-    judged b e = decided-with many words here (λ q. omega arith) ∙ e
-
-    keys-shown : shown words .keys ≡ contentsOf many words .keys
-    unfolding shown
-    keys-shown = ap (λ (n : ℕ). contentsOf n words .keys) here
-
     pub refused-table : soundWith many words ≡ false → Meets (Refused NotSound) output
     unfolding rangeReply rangeOutput rangeRefusal wrongLength lowAboveHigh notSound
     refused-table e =
-        let unsound = judged false e in
-        (rw (right-length, in-order, unsound), rw (right-length, in-order, unsound))
+        let unsound = judged words many some most long false e in
+        (rw (slots-right, in-order, unsound), rw (slots-right, in-order, unsound))
 
     -- the keys of the range, and how many they are
     module _ (sound : soundWith many words ≡ true) (chosen : List ℕ) (found : chosen ≡ within low high (contentsOf many words .keys)) where
       chosen-shown : within low high (shown words .keys) ≡ chosen
-      chosen-shown = ap (within low high) keys-shown ∙ sym found
+      chosen-shown = ap (λ (c : Contents). within low high (c .keys)) (shown-is words many some most long) ∙ sym found
 
       pub refused-short : length output < length chosen → Meets (Refused OutputTooShort) output
       unfolding rangeReply rangeOutput rangeRefusal wrongLength lowAboveHigh notSound outputTooShort
       refused-short h =
-          let right = judged true sound in
+          let right = judged words many some most long true sound in
           let short = lt-ltb (length output) (length chosen) h in
-          (rw (chosen-shown, right-length, in-order, right, short), rw (chosen-shown, right-length, in-order, right, short))
+          (rw (chosen-shown, slots-right, in-order, right, short), rw (chosen-shown, slots-right, in-order, right, short))
 
       pub accepted : length chosen ≤ length output → (n : ℕ) → n ≡ length chosen → (after : List ℕ) → after ≡ overwrite output 0 chosen
           → Meets (Wrote n) after
       unfolding rangeReply rangeOutput rangeRefusal wrongLength lowAboveHigh notSound outputTooShort
       accepted h n e after q =
-          let right = judged true sound in
+          let right = judged words many some most long true sound in
           let fits = le-ltb (length output) (length chosen) h in
-          (rw (chosen-shown, right-length, in-order, right, fits, e), rw (chosen-shown, right-length, in-order, right, fits) q)
+          (rw (chosen-shown, slots-right, in-order, right, fits, e), rw (chosen-shown, slots-right, in-order, right, fits) q)

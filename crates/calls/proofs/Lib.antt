@@ -1,0 +1,2 @@
+-- Laws that the calls share, one subject a file.
+pub mod Judged

@@ -1,0 +1,2 @@
+-- Laws of insert and delete, one subject a file.
+pub mod Sets
