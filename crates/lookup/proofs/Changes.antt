@@ -1,14 +1,14 @@
 -- Changes along a list of numbers that never rise: one more than they are the different numbers. Assumes nothing.
-use mathlib.Core.Bool.{Bool, true, false, cond, not}
+use mathlib.Core.Bool.{true, false, cond, not}
 use mathlib.Core.List.{List, [], _∷_}
 use mathlib.Core.Logic.{_⊎_, _≢_, ⊎-elim}
 use mathlib.Core.Path.{_≡_, refl, sym, ap, _∙_}
-use Prim.Native.Nat.{ℕ, zero, suc, _+_, _<_, _≤_}
+use Prim.Native.Nat.{ℕ, suc, _+_, _<_, _≤_}
 use native.Mathlib.Omega.{arith}
 use lib.Dec.{eqb}
 use lib.ListN.{length}
 use borrow.Author.Tests.{eqb-true, eqb-false, eq-eqb, ne-eqb}
-use Rattle.lists.specs.Lists.{consIf, member, distinct, All, Pairwise}
+use Rattle.lists.specs.Lists.{consIf, member, distinct, Pairwise}
 use Rattle.lists.proofs.Tests.{by-test, or-true-left}
 use Rattle.lists.proofs.Keep.{all-map}
 use Rattle.lists.proofs.Membership.{not-member}

@@ -1,13 +1,14 @@
--- The subtrees that a search goes down through, by the keys at their roots. Assumes rising keys, none of them zero.
-use mathlib.Core.Bool.{Bool, true, false, cond}
-use mathlib.Core.List.{List, [], _∷_, _++_}
+-- The subtrees that a search goes down through, each the subtree of the key at its root. Assumes nothing; a law that needs a
+-- heap-ordered search tree, or keys none of which is zero, says so.
+use mathlib.Core.Bool.{true, cond}
+use mathlib.Core.List.{List, [], _∷_}
 use mathlib.Core.Logic.{_≢_}
 use mathlib.Core.Path.{_≡_, refl, sym, ap, _∙_, subst}
-use Prim.Native.Nat.{ℕ, zero, suc, _+_, _<_, _≤_}
+use Prim.Native.Nat.{ℕ, _<_, _≤_}
 use native.Mathlib.Omega.{arith}
 use lib.Dec.{eqb, ltb}
 use borrow.Author.Tests.{ne-eqb}
-use Rattle.lists.specs.Lists.{member, All, Rising}
+use Rattle.lists.specs.Lists.{member, All}
 use Rattle.lists.proofs.Tests.{Compared, compared, by-test}
 use Rattle.lists.proofs.Tests.Compared.{less, same, more}
 use Rattle.lists.proofs.Keep.{all-append-left}
@@ -15,10 +16,10 @@ use Rattle.lists.proofs.Membership.{all-member}
 use Rattle.priority.specs.Priority.{priorityOf}
 use Rattle.treap.specs.Treap.{Tree, keys, rootKey, leftOf, rightOf, subtree, path, treap, leftLink, rightLink}
 use Rattle.treap.specs.Treap.Tree.{leaf, node}
-use Rattle.structure.proofs.Shape.{size, keys-root, Good, lesser-below, greater-above, treap-keys, treap-good}
-use Rattle.structure.proofs.Subtrees.{subtree-root, subtree-left, subtree-right, path-root, path-left, path-right, inside, good-subtree, member-left, member-right}
+use Rattle.structure.proofs.Shape.{size, keys-root, Good, lesser-below, greater-above}
+use Rattle.structure.proofs.Subtrees.{subtree-root, subtree-left, subtree-right, path-root, good-subtree, member-left, member-right}
 use Rattle.structure.proofs.Paths.{left-member, right-member, subtree-below}
-use Rattle.lookup.specs.Lookup.{nextKey}
+use Rattle.lookup.specs.Steps.{nextKey}
 
 -- ---- any tree
 -- a tree is the subtree of its root

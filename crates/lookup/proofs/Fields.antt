@@ -1,12 +1,11 @@
 -- The words of a key's slot in a sound table. Assumes that the slot is one of the table's and holds the key.
-use mathlib.Core.Bool.{Bool, true, false, cond}
+use mathlib.Core.Bool.{Bool, true}
 use mathlib.Core.List.{List}
 use mathlib.Core.Logic.{_≢_}
-use mathlib.Core.Path.{_≡_, refl, sym, ap, _∙_}
+use mathlib.Core.Path.{_≡_, sym, ap, _∙_}
 use Prim.Native.Nat.{ℕ, zero, suc, _+_, _<_, _≤_}
 use native.Mathlib.Omega.{arith}
-use lib.Dec.{ltb}
-use lib.ListN.{length, getD, take, drop}
+use lib.ListN.{length, getD, drop}
 use lib.Seq.{getD-take, getD-drop}
 use borrow.Author.Tests.{eq-eqb, ne-eqb, lt-ltb, le-ltb}
 use Rattle.lists.specs.Lists.{member, largest}
@@ -22,8 +21,8 @@ use Rattle.table.specs.Table.{slotOf, fresh, contentsOf}
 use Rattle.table.specs.Sound.{soundWith}
 use Rattle.table.proofs.Words.{fresh-root, slot-in-fresh, fresh-key}
 use Rattle.table.proofs.Soundness.{sound-exactly, shown-fit}
-use Rattle.lookup.specs.Lookup.{InSlot, standingOf, nextKey}
-use Rattle.lookup.specs.declared.Standing.{Standing}
+use Rattle.lookup.specs.Lookup.{standingOf}
+use Rattle.lookup.specs.Steps.{nextKey, InSlot}
 
 -- any word of a slot that holds a key, in a fresh table
 field-in-fresh : (many : ℕ) (c : Contents) (k slot field : ℕ) → slot < many → keyIn (fresh many c) slot ≡ k → field < slotWords

@@ -1,15 +1,15 @@
 -- The way down the treap of a table: where it starts, how it goes on, and what it has found at its end.
 -- Assumes valid contents.
-use mathlib.Core.Bool.{Bool, true, false}
+use mathlib.Core.Bool.{true}
 use mathlib.Core.List.{List, [], _∷_, map}
-use mathlib.Core.Logic.{_⊎_, _≢_, ⊎-elim}
+use mathlib.Core.Logic.{_≢_}
 use mathlib.Core.Path.{_≡_, refl, sym, ap, _∙_, subst}
-use Prim.Native.Nat.{ℕ, zero, suc, _+_, _<_, _≤_}
+use Prim.Native.Nat.{ℕ, suc, _+_, _<_, _≤_}
 use native.Mathlib.Omega.{arith}
 use lib.ListN.{length}
 use borrow.Author.Tests.{leb-true}
 use Rattle.lists.specs.Lists.{member, distinct, All, Rising}
-use Rattle.lists.proofs.Tests.{true-or-false, and-left}
+use Rattle.lists.proofs.Tests.{and-left}
 use Rattle.lists.proofs.Keep.{all-map}
 use Rattle.lists.proofs.Membership.{all-member}
 use Rattle.lists.proofs.Pairwise.{pairwise-mapped}
@@ -23,7 +23,8 @@ use Rattle.structure.proofs.Subtrees.{inside, good-subtree}
 use Rattle.structure.proofs.Blocks.{top-is-root, blockLevel, level-of-root}
 use Rattle.structure.proofs.SearchPath.{path-levels-fall, blocks-met-is}
 use Rattle.table.specs.Contents.{Contents, tableOrder, IsKey, Valid}
-use Rattle.lookup.specs.Lookup.{standingOf, lookedUp, nextKey}
+use Rattle.lookup.specs.Lookup.{standingOf, lookedUp}
+use Rattle.lookup.specs.Steps.{nextKey}
 use Rattle.lookup.specs.declared.Looked.the-variants.{Held, Absent}
 use Rattle.lookup.proofs.Changes.{changes, changes-same, Counted, counted-on, counted-most, NeverRising, changes-count}
 use Rattle.lookup.proofs.Descent.{root-subtree, zero-subtree, side, root-in-tree, path-begins, path-here, path-on, side-smaller, member-on, side-again, next-is-side}

@@ -11,7 +11,8 @@ ghost use Rattle.table.specs.Layout.{mostSlots, tableWords, slotStart};
 ghost use Rattle.table.specs.Table.{contentsOf};
 ghost use Rattle.table.specs.Sound.{soundWith};
 ghost use Rattle.find.specs.Find.{OnlyAt};
-ghost use Rattle.lookup.specs.Lookup.{InSlot, standingOf, nextKey, lookedUp};
+ghost use Rattle.lookup.specs.Lookup.{standingOf, lookedUp};
+ghost use Rattle.lookup.specs.Steps.{nextKey, InSlot};
 use find::Found;
 use table::COUNT_FIELD;
 use table::HEADER_WORDS;
@@ -30,7 +31,7 @@ pub struct Standing {
     pub leader: u64,
 }
 
-// What the way down from the root finds: whether the key is held, and how many blocks were met.
+// What the way down from the root finds: the key, with its standing, or not; and how many blocks were met.
 pub enum Looked {
     Held(Standing, usize),
     Absent(usize),

@@ -10,7 +10,7 @@ use Rattle.structure.proofs.Shape.{size}
 use Rattle.table.specs.Contents.{Valid}
 use Rattle.table.specs.Table.{contentsOf}
 use Rattle.table.proofs.Soundness.{WordSized, sound-valid, shown-fit}
-use Rattle.lookup.specs.Lookup.{InSlot}
+use Rattle.lookup.specs.Steps.{InSlot}
 use Rattle.lookup.specs.declared.Looked.the-variants.{Held}
 use Rattle.lookup.proofs.Answers.{key-in-slot}
 use Rattle.lookup.proofs.Fields.{root-is}
@@ -18,13 +18,6 @@ use Rattle.lookup.proofs.Changes.{Counted}
 use Rattle.lookup.proofs.WayDown.{rest, Searching, none-held, root-held, starts, at-held, room, found, smaller, goes-on, absent}
 use Rattle.lookup.proofs.look_up.Statement.{statement}
 use Rattle.lookup.proofs.look_up.Tie as tie
-use Rattle.lookup.proofs.look_up.Reads as reads
-use Rattle.lookup.proofs.look_up.Lts as lts
-use Rattle.lookup.proofs.level_of.Reads as level-of-reads
-use Rattle.lookup.proofs.next_of.Reads as next-of-reads
-use Rattle.lookup.proofs.rank_of.Reads as rank-of-reads
-use Rattle.lookup.proofs.slot_of.Reads as slot-of-reads
-use Rattle.lookup.proofs.standing_of.Reads as standing-of-reads
 
 abbrev Inv-loop : tie.InvT-loop
 Inv-loop table many key root at₀ level₀ met₀ at level met = Searching (contentsOf many table) key at level met
@@ -101,11 +94,12 @@ add-met c =
     let words = start .args .table .now in
     let many = start .args .many in
     let loop = c .before .before .before .before .loop in
-    omega
-    (arith,
-    start .pre .1,
-    shown-fit many words,
-    room many (contentsOf many words) (valid known) (start .args .key) (loop .at) (loop .level) (loop .met) (loop .inv) (c .before .before .before .loop-test .taken))
+    omega (
+      arith,
+      start .pre .1,
+      shown-fit many words,
+      room many (contentsOf many words) (valid known) (start .args .key) (loop .at) (loop .level) (loop .met) (loop .inv) (c .before .before .before .loop-test .taken),
+    )
 
 standing-of-requires : tie.Need-standing-of-requires Inv-loop μ-loop
 standing-of-requires c κs = in-slot (c .before .before .before)
