@@ -86,10 +86,10 @@ module _ (many : ℕ) (words : List ℕ) (k slot : ℕ) (at : InSlot many words 
   rank-word-small = omega (arith, rank-is, rank-small (c .order) priorityOf (c .keys) k, shown-fit many words, at .few)
 
   -- what the words amount to
-  pub standing-is : (one two three : ℕ) → one ≡ getD words (slotStart slot + rankField) 0 → two ≡ getD words (slotStart slot + countField) 0
-      → three ≡ getD words (slotStart slot + leaderField) 0 → record { rank = one; count = two; leader = three } ≡ standingOf c k
+  pub standing-is : (rankWord countWord leaderWord : ℕ) → rankWord ≡ getD words (slotStart slot + rankField) 0 → countWord ≡ getD words (slotStart slot + countField) 0
+      → leaderWord ≡ getD words (slotStart slot + leaderField) 0 → record { rank = rankWord; count = countWord; leader = leaderWord } ≡ standingOf c k
   unfolding standingOf
-  standing-is one two three e f g =
+  standing-is rankWord countWord leaderWord e f g =
       λ i. record { rank = (e ∙ rank-is) i; count = (f ∙ count-is) i; leader = (g ∙ leader-is) i }
 
   pub root-level-is : (word : ℕ) → word ≡ getD words (slotStart slot + rankField) 0 → k ≡ getD words rootWord 0 → word ≡ blockLevel (c .order) priorityOf (c .keys) k

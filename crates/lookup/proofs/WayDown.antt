@@ -102,16 +102,16 @@ module _ (many : ℕ) (c : Contents) (valid : Valid many c) where
   first-block : (key level : ℕ) → rootKey t ≢ 0 → blockLevel (c .order) p ks (rootKey t) ≡ level
       → 1 + changes level (map (blockLevel (c .order) p ks) (path key t)) ≡ blocksMet (c .order) p ks key
   first-block key level d e =
-      let lv = blockLevel (c .order) p ks in
+      let levelOf = blockLevel (c .order) p ks in
       let (more, begins) = path-begins t key d in
-      let falls : NeverRising (lv (rootKey t) ∷ map lv more) =
-      subst (λ (xs : List ℕ). NeverRising (map lv xs)) begins
-      (pairwise-mapped (λ x y. y ≤ x) lv (path key t) (path-levels-fall (c .order) p wide ks rising key))
+      let falls : NeverRising (levelOf (rootKey t) ∷ map levelOf more) =
+      subst (λ (xs : List ℕ). NeverRising (map levelOf xs)) begins
+      (pairwise-mapped (λ x y. y ≤ x) levelOf (path key t) (path-levels-fall (c .order) p wide ks rising key))
       in
-      ap (λ (xs : List ℕ). 1 + changes level (map lv xs)) begins
-      ∙ ap (λ (n : ℕ). 1 + n) (changes-same level (lv (rootKey t)) (map lv more) e)
-      ∙ omega (arith, changes-count (lv (rootKey t)) (map lv more) falls)
-      ∙ ap (λ (xs : List ℕ). length (distinct (map lv xs))) (sym begins)
+      ap (λ (xs : List ℕ). 1 + changes level (map levelOf xs)) begins
+      ∙ ap (λ (n : ℕ). 1 + n) (changes-same level (levelOf (rootKey t)) (map levelOf more) e)
+      ∙ omega (arith, changes-count (levelOf (rootKey t)) (map levelOf more) falls)
+      ∙ ap (λ (xs : List ℕ). length (distinct (map levelOf xs))) (sym begins)
       ∙ sym (blocks-met-is (c .order) p wide ks rising key)
 
   pub starts : (key root level : ℕ) → root ≡ top p ks → root ≢ 0 → level ≡ rank (c .order) p ks root → Searching c key root level 1
@@ -119,13 +119,13 @@ module _ (many : ℕ) (c : Contents) (valid : Valid many c) where
   starts key root level e d l =
       let at-top : root ≡ rootKey t = e ∙ top-is-root p ks rising root (root-held root e d) in
       let whole : rest c root ≡ t = ap (λ (k : ℕ). subtree k t) at-top ∙ root-subtree t in
-      let lv : blockLevel (c .order) p ks (rootKey t) ≡ level =
+      let its-level : blockLevel (c .order) p ks (rootKey t) ≡ level =
       level-of-root (c .order) p ks wide rising (rootKey t) (sym at-top ∙ e) ∙ ap (rank (c .order) p ks) (sym e) ∙ sym l
       in
       record {
         root = ap rootKey whole ∙ sym at-top;
         held = ap (λ z. member key (keys z)) whole ∙ ap (member key) (treap-keys p ks rising);
-        blocks = ap (λ z. 1 + changes level (map (blockLevel (c .order) p ks) (path key z))) whole ∙ first-block key level (λ q. d (at-top ∙ q)) lv;
+        blocks = ap (λ z. 1 + changes level (map (blockLevel (c .order) p ks) (path key z))) whole ∙ first-block key level (λ q. d (at-top ∙ q)) its-level;
         few = omega (arith, ap size whole, length-keys t, ap length (treap-keys p ks rising));
       }
 
@@ -148,10 +148,10 @@ module _ (many : ℕ) (c : Contents) (valid : Valid many c) where
       counted-here : (xs : List ℕ) → path key (rest c at) ≡ rootKey (rest c at) ∷ xs
           → more + changes here (map (blockLevel (c .order) p ks) xs) ≡ blocksMet (c .order) p ks key
       counted-here xs e =
-          let lv = blockLevel (c .order) p ks in
-          counted-on level here met more (map lv xs) counted
-          ∙ ap (λ (n : ℕ). met + changes level (n ∷ map lv xs)) (its ∙ ap lv (sym (now .root)))
-          ∙ ap (λ (ys : List ℕ). met + changes level (map lv ys)) (sym e)
+          let levelOf = blockLevel (c .order) p ks in
+          counted-on level here met more (map levelOf xs) counted
+          ∙ ap (λ (n : ℕ). met + changes level (n ∷ map levelOf xs)) (its ∙ ap levelOf (sym (now .root)))
+          ∙ ap (λ (ys : List ℕ). met + changes level (map levelOf ys)) (sym e)
           ∙ now .blocks
 
       pub found : at ≡ key → Held (standingOf c at) more ≡ lookedUp c key
