@@ -1,5 +1,5 @@
 -- What the answer of a slot search says in a sound table. Assumes at least one slot, and words that are 64-bit numbers.
-use mathlib.Core.Bool.{Bool, true, false}
+use mathlib.Core.Bool.{true, false}
 use mathlib.Core.List.{List}
 use mathlib.Core.Logic.{_⊎_, _≢_, ⊎-elim}
 use mathlib.Core.Path.{_≡_, sym, ap, _∙_, subst}
@@ -22,7 +22,7 @@ use Rattle.find.specs.declared.Found.{Found}
 use Rattle.find.specs.declared.Found.the-variants.{At, Nowhere}
 use Rattle.find.proofs.Searching.{found-at, found-nowhere}
 use Rattle.find.proofs.Finding.{held-key-found, absent-key-not-found}
-use Rattle.lookup.specs.Lookup.{InSlot}
+use Rattle.lookup.specs.Steps.{InSlot}
 
 -- ---- any answer
 -- it names the slot at which the search stops, one of so many

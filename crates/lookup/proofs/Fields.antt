@@ -1,12 +1,11 @@
 -- The words of a key's slot in a sound table. Assumes that the slot is one of the table's and holds the key.
-use mathlib.Core.Bool.{Bool, true, false, cond}
+use mathlib.Core.Bool.{Bool, true}
 use mathlib.Core.List.{List}
 use mathlib.Core.Logic.{_≢_}
-use mathlib.Core.Path.{_≡_, refl, sym, ap, _∙_}
+use mathlib.Core.Path.{_≡_, sym, ap, _∙_}
 use Prim.Native.Nat.{ℕ, zero, suc, _+_, _<_, _≤_}
 use native.Mathlib.Omega.{arith}
-use lib.Dec.{ltb}
-use lib.ListN.{length, getD, take, drop}
+use lib.ListN.{length, getD, drop}
 use lib.Seq.{getD-take, getD-drop}
 use borrow.Author.Tests.{eq-eqb, ne-eqb, lt-ltb, le-ltb}
 use Rattle.lists.specs.Lists.{member, largest}
@@ -22,8 +21,8 @@ use Rattle.table.specs.Table.{slotOf, fresh, contentsOf}
 use Rattle.table.specs.Sound.{soundWith}
 use Rattle.table.proofs.Words.{fresh-root, slot-in-fresh, fresh-key}
 use Rattle.table.proofs.Soundness.{sound-exactly, shown-fit}
-use Rattle.lookup.specs.Lookup.{InSlot, standingOf, nextKey}
-use Rattle.lookup.specs.declared.Standing.{Standing}
+use Rattle.lookup.specs.Lookup.{standingOf}
+use Rattle.lookup.specs.Steps.{nextKey, InSlot}
 
 -- any word of a slot that holds a key, in a fresh table
 field-in-fresh : (many : ℕ) (c : Contents) (k slot field : ℕ) → slot < many → keyIn (fresh many c) slot ≡ k → field < slotWords
@@ -87,10 +86,10 @@ module _ (many : ℕ) (words : List ℕ) (k slot : ℕ) (at : InSlot many words 
   rank-word-small = omega (arith, rank-is, rank-small (c .order) priorityOf (c .keys) k, shown-fit many words, at .few)
 
   -- what the words amount to
-  pub standing-is : (one two three : ℕ) → one ≡ getD words (slotStart slot + rankField) 0 → two ≡ getD words (slotStart slot + countField) 0
-      → three ≡ getD words (slotStart slot + leaderField) 0 → record { rank = one; count = two; leader = three } ≡ standingOf c k
+  pub standing-is : (rankWord countWord leaderWord : ℕ) → rankWord ≡ getD words (slotStart slot + rankField) 0 → countWord ≡ getD words (slotStart slot + countField) 0
+      → leaderWord ≡ getD words (slotStart slot + leaderField) 0 → record { rank = rankWord; count = countWord; leader = leaderWord } ≡ standingOf c k
   unfolding standingOf
-  standing-is one two three e f g =
+  standing-is rankWord countWord leaderWord e f g =
       λ i. record { rank = (e ∙ rank-is) i; count = (f ∙ count-is) i; leader = (g ∙ leader-is) i }
 
   pub root-level-is : (word : ℕ) → word ≡ getD words (slotStart slot + rankField) 0 → k ≡ getD words rootWord 0 → word ≡ blockLevel (c .order) priorityOf (c .keys) k

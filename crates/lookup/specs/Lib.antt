@@ -1,2 +1,3 @@
--- The answer of a lookup.
+-- The lookup of a key: its answer, and its steps.
 pub mod Lookup
+pub mod Steps

@@ -11,7 +11,8 @@ ghost use Rattle.table.specs.Layout.{mostSlots, tableWords, slotStart};
 ghost use Rattle.table.specs.Table.{contentsOf};
 ghost use Rattle.table.specs.Sound.{soundWith};
 ghost use Rattle.find.specs.Find.{OnlyAt};
-ghost use Rattle.lookup.specs.Lookup.{InSlot, standingOf, nextKey, lookedUp};
+ghost use Rattle.lookup.specs.Lookup.{standingOf, lookedUp};
+ghost use Rattle.lookup.specs.Steps.{nextKey, InSlot};
 use find::Found;
 use table::COUNT_FIELD;
 use table::HEADER_WORDS;
@@ -30,7 +31,7 @@ pub struct Standing {
     pub leader: u64,
 }
 
-// What the way down from the root finds: whether the key is held, and how many blocks were met.
+// What the way down from the root finds: the key, with its standing, or not; and how many blocks were met.
 pub enum Looked {
     Held(Standing, usize),
     Absent(usize),
@@ -112,4 +113,33 @@ fn next_of(table: &[u64], many: usize, slot: usize, at: u64, key: u64) -> u64
         return word_of(table, slot, LEFT_FIELD);
     }
     word_of(table, slot, RIGHT_FIELD)
+}
+
+// The way down the table's treap from its root to `key`, or to where `key` would hang. A new block is met whenever the
+// level changes; a table without keys has none.
+// Internal to this library's crates: their tables are judged before, and their keys are not zero.
+pub fn look_up(table: &[u64], many: usize, key: u64) -> Looked
+    requires { ⌜ (0 < many) × (many ≤ mostSlots) × (length (now table) ≡ tableWords many) × (soundWith many (now table) ≡ true) × (1 ≤ key) ⌝ }
+    ensures { λ r. ⌜ r ≡ lookedUp (contentsOf many (now (table .entry))) key ⌝ }
+{
+    let root = table[ROOT_WORD];
+    if root == 0 {
+        return Looked::Absent(0);
+    }
+    let mut at = root;
+    let mut level = rank_of(table, many, root);
+    let mut met = 1;
+    while at != 0 {
+        let slot = slot_of(table, many, at);
+        let here = level_of(table, many, slot, at);
+        if here != level {
+            met += 1;
+        }
+        if at == key {
+            return Looked::Held(standing_of(table, many, slot, at), met);
+        }
+        level = here;
+        at = next_of(table, many, slot, at, key);
+    }
+    Looked::Absent(met)
 }

@@ -8,11 +8,6 @@ use Rattle.lookup.proofs.Answers.{slot-inside, slot-decides, nowhere-de
 use borrow.Author.Needs.{needs}
 use Rattle.lookup.proofs.holds.Statement.{statement}
 use Rattle.lookup.proofs.holds.Tie as tie
-use Rattle.lookup.proofs.holds.Reads as reads
-use Rattle.lookup.proofs.holds.Lts as lts
-use Rattle.find.proofs.find.Reads as find-reads
-use Rattle.lookup.proofs.word_of.Reads as word-of-reads
-use Rattle.priority.proofs.priority.Reads as priority-reads
 
 -- the words lent are 64-bit numbers
 sized : (p : tie.After-shared-slice-known) → WordSized (p .before .args .table .now)
@@ -41,11 +36,12 @@ word-of-requires : tie.Need-word-of-requires
 word-of-requires c κs =
     let after = c .before .before .before in
     let start = after .before .before .before in
-    omega
-    (arith,
-    start .pre .2,
-    slot-inside (start .args .many) (start .args .table .now) (start .pre .0) (start .pre .3) (sized (after .before .before)) (start .args .key)
-    (after .before .priority .result) (after .before .priority .ensures) (after .find .result) (after .find .ensures) (c .before .found .given .0 .0) (c .before .found .given .1))
+    omega (
+      arith,
+      start .pre .2,
+      slot-inside (start .args .many) (start .args .table .now) (start .pre .0) (start .pre .3) (sized (after .before .before)) (start .args .key)
+          (after .before .priority .result) (after .before .priority .ensures) (after .find .result) (after .find .ensures) (c .before .found .given .0 .0) (c .before .found .given .1),
+    )
 
 returns-2 : tie.Need-returns-2
 returns-2 c =

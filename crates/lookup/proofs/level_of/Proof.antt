@@ -4,9 +4,6 @@ use Rattle.lookup.proofs.Fields.{rank-word-small, root-level-is, other-
 use borrow.Author.Needs.{needs}
 use Rattle.lookup.proofs.level_of.Statement.{statement}
 use Rattle.lookup.proofs.level_of.Tie as tie
-use Rattle.lookup.proofs.level_of.Reads as reads
-use Rattle.lookup.proofs.level_of.Lts as lts
-use Rattle.lookup.proofs.word_of.Reads as word-of-reads
 
 word-of-requires : tie.Need-word-of-requires
 word-of-requires c κs = search needs

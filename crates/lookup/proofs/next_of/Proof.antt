@@ -3,9 +3,6 @@ use Rattle.lookup.proofs.Fields.{next-is-left, next-is-right}
 use borrow.Author.Needs.{needs}
 use Rattle.lookup.proofs.next_of.Statement.{statement}
 use Rattle.lookup.proofs.next_of.Tie as tie
-use Rattle.lookup.proofs.next_of.Reads as reads
-use Rattle.lookup.proofs.next_of.Lts as lts
-use Rattle.lookup.proofs.word_of.Reads as word-of-reads
 
 word-of-requires : tie.Need-word-of-requires
 word-of-requires c κs = search needs

@@ -6,10 +6,6 @@ use Rattle.lookup.proofs.Fields.{rank-is}
 use borrow.Author.Needs.{needs}
 use Rattle.lookup.proofs.rank_of.Statement.{statement}
 use Rattle.lookup.proofs.rank_of.Tie as tie
-use Rattle.lookup.proofs.rank_of.Reads as reads
-use Rattle.lookup.proofs.rank_of.Lts as lts
-use Rattle.lookup.proofs.slot_of.Reads as slot-of-reads
-use Rattle.lookup.proofs.word_of.Reads as word-of-reads
 
 slot-of-requires : tie.Need-slot-of-requires
 slot-of-requires c κs = search needs

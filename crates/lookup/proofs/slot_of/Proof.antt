@@ -5,10 +5,6 @@ use Rattle.lookup.proofs.Answers.{held-slot, held-somewhere}
 use borrow.Author.Needs.{needs}
 use Rattle.lookup.proofs.slot_of.Statement.{statement}
 use Rattle.lookup.proofs.slot_of.Tie as tie
-use Rattle.lookup.proofs.slot_of.Reads as reads
-use Rattle.lookup.proofs.slot_of.Lts as lts
-use Rattle.find.proofs.find.Reads as find-reads
-use Rattle.priority.proofs.priority.Reads as priority-reads
 
 -- the words lent are 64-bit numbers
 sized : (p : tie.After-shared-slice-known) → WordSized (p .before .args .table .now)

@@ -3,9 +3,6 @@ use Rattle.lookup.proofs.Fields.{standing-is}
 use borrow.Author.Needs.{needs}
 use Rattle.lookup.proofs.standing_of.Statement.{statement}
 use Rattle.lookup.proofs.standing_of.Tie as tie
-use Rattle.lookup.proofs.standing_of.Reads as reads
-use Rattle.lookup.proofs.standing_of.Lts as lts
-use Rattle.lookup.proofs.word_of.Reads as word-of-reads
 
 word-of-requires : tie.Need-word-of-requires
 word-of-requires c κs = search needs
