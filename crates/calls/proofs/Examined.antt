@@ -1,0 +1,44 @@
+-- What a call has after it examined a table and found it sound: the table's keys, rising, at the start of its list. Assumes nothing.
+use mathlib.Core.Bool.{true}
+use mathlib.Core.List.{List}
+use mathlib.Core.Path.{_≡_, sym, ap, _∙_}
+use Prim.Native.Nat.{ℕ, _≤_}
+use native.Mathlib.Omega.{arith}
+use lib.ListN.{length, take}
+use Rattle.lists.specs.Lists.{overwrite}
+use Rattle.lists.proofs.Overwrite.{overwrite-length}
+use Rattle.lists.proofs.Start.{starts-with}
+use Rattle.table.specs.Table.{contentsOf}
+use Rattle.table.specs.Sound.{soundWith}
+use Rattle.table.proofs.Soundness.{shown-fit}
+use Rattle.judge.specs.Judge.{verdictOf}
+use Rattle.judge.specs.declared.Verdict.{Verdict}
+use Rattle.judge.specs.declared.Verdict.the-variants.{Sound}
+use Rattle.judge.proofs.Verdicts.{told-true, told-size}
+
+-- A sound table of `many` slots, its `n` keys at the start of a list that was lent with room for so many.
+pub record Examined (many : ℕ) (words lent keys : List ℕ) (n : ℕ) : Type 0 where
+  pub sound : soundWith many words ≡ true
+  pub size : n ≡ length (contentsOf many words .keys)
+  pub most : n ≤ many
+  pub holds : keys ≡ overwrite lent 0 (contentsOf many words .keys)
+  pub taken : take n keys ≡ contentsOf many words .keys
+  pub long : length keys ≡ length lent
+
+pub examined : (many : ℕ) (words lent keys : List ℕ) (n : ℕ) (v : Verdict) → v ≡ verdictOf many words → v ≡ Sound n
+    → (soundWith many words ≡ true → keys ≡ overwrite lent 0 (contentsOf many words .keys)) → many ≤ length lent
+    → Examined many words lent keys n
+examined many words lent keys n v is says written room =
+    let shown = contentsOf many words .keys in
+    let told = sym is ∙ says in
+    let sound = told-true many words n told in
+    let size = told-size many words n told in
+    let few = shown-fit many words in
+    record {
+      sound = sound;
+      size = size;
+      most = omega arith;
+      holds = written sound;
+      taken = starts-with keys lent shown n (written sound) (sym size);
+      long = ap length (written sound) ∙ overwrite-length lent 0 shown (omega arith);
+    }
