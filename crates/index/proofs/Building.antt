@@ -8,7 +8,9 @@ use native.Mathlib.Omega.{arith}
 use lib.Dec.{eqb, ltb}
 use lib.ListN.{length}
 use borrow.Author.Tests.{ne-eqb, lt-ltb, le-ltb}
-use Rattle.table.specs.Contents.{Contents, newOrder}
+use Rattle.lists.proofs.Tests.{lies-says}
+use Rattle.table.specs.Layout.{leastOrder, greatestOrder}
+use Rattle.table.specs.Contents.{Contents, tableOrder, newOrder}
 use Rattle.table.specs.Table.{fresh}
 use Rattle.judge.specs.Judge.{slotsFor}
 use Rattle.judge.proofs.Lengths.{SlotsOf, slots-for-some}
@@ -20,7 +22,7 @@ use Rattle.replies.specs.declared.Refusal.the-variants.{WrongLength, WrongOrder
 use Rattle.replies.specs.declared.Built.{Built}
 use Rattle.replies.specs.declared.Built.the-variants.{Done, Refused}
 use Rattle.index.specs.Calls.{wrongLength, wrongOrder, risingKeys, notRising, tooManyKeys, rewritten, buildRefusal, buildReply, buildAfter}
-use Rattle.index.proofs.Tests.{order-within, rising-says}
+use Rattle.index.proofs.Tests.{rising-says}
 
 module _ (words : List ℕ) (order : ℕ) (list : List ℕ) where
   -- What a build that answers so and leaves these words meets.
@@ -61,8 +63,9 @@ module _ (words : List ℕ) (order : ℕ) (list : List ℕ) where
             )
 
         pub can-be-written : many ≤ 4096 → length list ≤ many → Writable order many list
+        unfolding newOrder tableOrder
         can-be-written most fit =
-            let within = order-within order right in
+            let within = lies-says leastOrder greatestOrder order right in
             let keys = rising-says list rise in
             let can : Keys order list =
             record {
