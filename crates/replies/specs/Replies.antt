@@ -54,7 +54,8 @@ abbrev pub rangedOf : Ranged → Reply
 rangedOf (ranged.Wrote n) = record { refusal = 0; numbers = n ∷ [] }
 rangedOf (ranged.Refused r) = record { refusal = numberOf r; numbers = 0 ∷ [] }
 
--- "A refusal .. changes no lent memory": the words after a call that was refused under this number, zero for none.
+-- "A refusal .. changes no lent memory": the words after a call that was refused under this number, zero for none. Likewise the
+-- numbers of its reply: those of an accepted call, or those that stand there on a refusal.
 abbrev pub unlessRefused : ℕ → List ℕ → List ℕ → List ℕ
 unlessRefused zero changed before = changed
 unlessRefused (suc number) changed before = before
