@@ -28,11 +28,10 @@ use Rattle.structure.proofs.Leaders.{leader-of-root}
 use Rattle.structure.proofs.Ancestors.{leader-leads}
 use Rattle.columns.specs.Positions.{positions, weightAt, InOrder}
 use Rattle.columns.specs.Columns.{leftColumn, rightColumn, rankColumn, countColumn, leaderColumn}
-use Rattle.columns.proofs.Filled.{column-length}
+use Rattle.columns.proofs.Filled.{column-length, column-at}
 use Rattle.columns.proofs.PositionTree.{child-within}
 use Rattle.table.specs.Table.{fresh}
 use Rattle.encode.specs.Encode.{Columns, Linked, wordsOf}
-use Rattle.encode.proofs.Renaming.{column-entry}
 use Rattle.encode.proofs.Fresh.{Right, slots-within, words-are-fresh}
 use Rattle.slots.proofs.Placing.{placeAll-length}
 use Rattle.assemble.specs.Assemble.{Filled, Prepared}
@@ -112,7 +111,7 @@ module _ (order : ℕ) (wide : 2 ≤ order) (ks left right rank count lead slots
   low : (column : List ℕ) (g : ℕ → ℕ → ℕ) → take (length ks) column ≡ map (g (length ks)) (positions (length ks))
       → ((i : ℕ) → i < length (map priorityOf ks) → g (length (map priorityOf ks)) (suc i) ≤ length (map priorityOf ks)) → (i : ℕ) → i < length ks → getD column i 0 ≤ length ks
   low column g e bound i h =
-      subst (λ (x : ℕ). x ≤ length ks) (sym (column-entry column (g (length ks)) (length ks) e i h))
+      subst (λ (x : ℕ). x ≤ length ks) (sym (column-at (g (length ks)) (length ks) column e i h))
       (subst (λ (m : ℕ). g m (suc i) ≤ m) as-many (bound i (omega (arith, as-many))))
 
   pub linked : Linked ks columns

@@ -8,6 +8,7 @@ use Rattle.priority.specs.Priority.{priorityOf, homeOf}
 use Rattle.treap.specs.Treap.{top}
 use Rattle.treap.specs.Slots.{slotsOf}
 use Rattle.columns.specs.Positions.{positions, weightAt}
+use Rattle.table.specs.Layout.{mostSlots, greatestOrder}
 use Rattle.columns.specs.Columns.{leftColumn, rightColumn, rankColumn, countColumn, leaderColumn}
 
 -- Lists that begin with the columns of the positions of `weights`.
@@ -18,13 +19,13 @@ pub record Filled (order : ℕ) (weights left right rank count leader : List ℕ
   pub counts : take (length weights) count ≡ countColumn order weights (length weights)
   pub leaders : take (length weights) leader ≡ leaderColumn order weights (length weights)
 
--- Keys that a table can be made of: an order from 2 to 255 and few enough rising keys, none of them zero.
+-- Keys that a table can be made of: an order of at least 2 that is not too large, and few enough rising keys, none of them zero.
 pub record Keys (order : ℕ) (keys : List ℕ) : Type 0 where
   pub wide : 2 ≤ order
-  pub narrow : order ≤ 255
+  pub narrow : order ≤ greatestOrder
   pub rising : Rising keys
   pub some : All (λ k. 1 ≤ k) keys
-  pub few : length keys ≤ 4096
+  pub few : length keys ≤ mostSlots
 
 -- What a table is written from: the columns of the keys, their slots and their root, by position.
 pub record Prepared (order : ℕ) (keys left right rank count leader slots : List ℕ) (root : ℕ) : Type 0 where

@@ -7,7 +7,7 @@ ghost use Rattle.priority.specs.Priority.{priorityOf};
 ghost use Rattle.sorting.specs.ByWeight.{byWeight};
 ghost use Rattle.lists.specs.Lists.{same};
 ghost use Rattle.treap.specs.Treap.{top};
-ghost use Rattle.table.specs.Layout.{tableWords};
+ghost use Rattle.table.specs.Layout.{mostSlots, greatestOrder, tableWords};
 ghost use Rattle.table.specs.Table.{fresh};
 ghost use Rattle.columns.specs.Positions.{positions, weightAt, InOrder};
 ghost use Rattle.assemble.specs.Assemble.{Filled, Keys, Prepared};
@@ -34,7 +34,7 @@ fn fill(
     count: &mut [u64],
     leader: &mut [u64],
 ) -> usize
-    requires { ⌜ (2 ≤ order) × (order ≤ 255) × (length (now weights) ≤ 4096) ⌝ }
+    requires { ⌜ (2 ≤ order) × (order ≤ greatestOrder) × (length (now weights) ≤ mostSlots) ⌝ }
     requires { ⌜ (length (now weights) ≤ length (now ranking)) × InOrder (now weights) (take (length (now weights)) (now ranking)) ⌝ }
     requires { ⌜ (length (now weights) ≤ length (now left)) × (length (now weights) ≤ length (now right)) ⌝ }
     requires { ⌜ (length (now weights) ≤ length (now rank)) × (length (now weights) ≤ length (now count)) × (length (now weights) ≤ length (now leader)) ⌝ }

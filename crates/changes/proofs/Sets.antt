@@ -5,16 +5,16 @@ use mathlib.Core.Logic.{_≢_}
 use mathlib.Core.Path.{_≡_, refl, sym, ap, _∙_, subst}
 use Prim.Native.Nat.{ℕ, suc, _<_, _≤_}
 use native.Mathlib.Omega.{arith}
-use lib.Dec.{eqb, ltb, leb}
+use lib.Dec.{eqb, ltb}
 use lib.ListN.{length}
-use borrow.Author.Tests.{ltb-true, ltb-false, eqb-false, leb-true}
+use borrow.Author.Tests.{ltb-true, ltb-false, eqb-false}
 use Rattle.lists.specs.Lists.{All, Pairwise, Rising, member, insertBy}
-use Rattle.lists.proofs.Tests.{by-test, or-true-left, or-true-right, or-false-left, or-false-right, and-left, and-right}
+use Rattle.lists.proofs.Tests.{by-test, or-true-left, or-true-right, or-false-left, or-false-right, lies-says}
 use Rattle.lists.proofs.Keep.{all-map, all-keep, length-keep}
 use Rattle.lists.proofs.Membership.{eqb-same}
 use Rattle.lists.proofs.Pairwise.{pairwise-keep}
 use Rattle.lists.proofs.Sorting.{all-permuted, length-permuted, insertBy-permutes}
-use Rattle.table.specs.Layout.{mostSlots}
+use Rattle.table.specs.Layout.{mostSlots, leastOrder, greatestOrder}
 use Rattle.table.specs.Contents.{Contents, tableOrder, IsKey, Valid}
 use Rattle.assemble.specs.Assemble.{Keys}
 use Rattle.edit.specs.Edit.{joined, without}
@@ -76,10 +76,10 @@ module _ (key : ℕ) where
 pub valid-keys : (many : ℕ) (c : Contents) → many ≤ mostSlots → Valid many c → Keys (c .order) (c .keys)
 unfolding tableOrder
 valid-keys many c most valid =
-    let right = valid .order-right in
+    let within = lies-says leastOrder greatestOrder (c .order) (valid .order-right) in
     record {
-      wide = omega (arith, leb-true 3 (c .order) (and-left (leb 3 (c .order)) (leb (c .order) 255) right));
-      narrow = leb-true (c .order) 255 (and-right (leb 3 (c .order)) (leb (c .order) 255) right);
+      wide = omega (arith, within .0);
+      narrow = within .1;
       rising = valid .keys-rise;
       some = all-map IsKey (λ k. 1 ≤ k) (λ k h. h .0) (c .keys) (valid .keys-right);
       few = omega (arith, valid .keys-fit);

@@ -1,5 +1,5 @@
--- The steps by which the columns are made: what a column has for a position, and the fold's standings as values.
--- Assumes nothing.
+-- The steps by which the columns are made: what a column has for a position, and the fold's standings as values. Only the
+-- contracts of inner functions cite it. Assumes nothing.
 use mathlib.Core.Bool.{cond}
 use mathlib.Core.List.{List, _∷_}
 use Prim.Native.Nat.{ℕ, zero, suc, max, _≤_}

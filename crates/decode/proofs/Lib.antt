@@ -1,4 +1,3 @@
--- The laws of `decode`. `Held` is for the crates above it.
-pub mod Held
+-- The laws of `decode`.
 mod Neighbours
 mod Gathered

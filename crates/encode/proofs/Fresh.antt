@@ -24,11 +24,12 @@ use Rattle.structure.proofs.Relabel.{Renames, renamed-top, renamed-left, rename
 use Rattle.structure.proofs.RelabelSlots.{renamed-slots}
 use Rattle.columns.specs.Positions.{positions, weightAt}
 use Rattle.columns.specs.Columns.{leftColumn, rightColumn, rankColumn, countColumn, leaderColumn}
+use Rattle.columns.proofs.Filled.{column-at}
 use Rattle.table.specs.Layout.{slotWords}
 use Rattle.table.specs.Contents.{Contents}
 use Rattle.table.specs.Table.{homeIn, header, slotOf, fresh}
 use Rattle.encode.specs.Encode.{keyAt, Columns, slotAt, wordsOf}
-use Rattle.encode.proofs.Renaming.{getD-of-map, column-entry, maps-agree, key-at-suc, key-at-zero, keys-of-positions, keys-rename, keys-apart, place-home, all-placed, all-replicate}
+use Rattle.encode.proofs.Renaming.{maps-agree, key-at-suc, key-at-zero, keys-of-positions, keys-rename, keys-apart, place-home, all-placed, all-replicate}
 
 -- Columns that begin with those of the definitions, over the priorities of the keys.
 pub record Right (order : ℕ) (keys : List ℕ) (c : Columns) : Type 0 where
@@ -71,12 +72,12 @@ module _ (order : ℕ) (wide : 2 ≤ order) (keys : List ℕ) (rising : Rising k
         → (i : ℕ) → i < n → g priorityOf keys (f (suc i)) ≡ f (getD column i 0)
     linked g column e t i h =
         of-position (g priorityOf keys) (λ j. f (g q is j)) (over-keys (g priorityOf) (map f (map (g q is) is)) e ∙ map-map f (g q is) is) i h
-        ∙ ap f (sym (column-entry column (g q is) n t i h))
+        ∙ ap f (sym (column-at (g q is) n column t i h))
 
     numbered : (g : (ℕ → ℕ) → List ℕ → ℕ → ℕ) (column : List ℕ) → map (g priorityOf (map f is)) (map f is) ≡ map (g q is) is → take n column ≡ map (g q is) is
         → (i : ℕ) → i < n → g priorityOf keys (f (suc i)) ≡ getD column i 0
     numbered g column e t i h =
-        of-position (g priorityOf keys) (g q is) (over-keys (g priorityOf) (map (g q is) is) e) i h ∙ sym (column-entry column (g q is) n t i h)
+        of-position (g priorityOf keys) (g q is) (over-keys (g priorityOf) (map (g q is) is) e) i h ∙ sym (column-at (g q is) n column t i h)
 
     slot-right : (i : ℕ) → i ≤ n → slotOf (record { order = order; keys = keys }) (f i) ≡ slotAt keys c i
     unfolding slotOf slotAt

@@ -3,6 +3,7 @@ use mathlib.Core.Bool.{Bool, true, false, cond, _&&_, and-true}
 use mathlib.Core.List.{List, [], _∷_, _++_, flatMap, append-assoc}
 use mathlib.Core.Path.{_≡_, refl, sym, ap, ap₂, _∙_, subst}
 use Prim.Native.Nat.{ℕ, zero, suc, _+_, _*_, _<_, _≤_}
+use native.Mathlib.Nat.{add-zero}
 use native.Mathlib.Numerals.{add-one, add-two, add-three, add-four, add-five, add-six}
 use native.Mathlib.Omega.{arith}
 use lib.Dec.{eqb}
@@ -12,16 +13,16 @@ use Rattle.lists.specs.Lists.{same}
 use Rattle.lists.proofs.Tests.{true-or-false}
 use Rattle.lists.proofs.Membership.{same-says, same-when, same-differs}
 use Rattle.lists.proofs.FlatMap.{flatMap-append}
-use Rattle.table.specs.Layout.{headerWords, slotWords, slotStart, tableWords}
+use Rattle.table.specs.Layout.{headerWords, slotWords, keyField, leftField, rightField, leaderField, rankField, countField, slotStart, tableWords}
 use Rattle.encode.specs.Encode.{keyAt, Columns, slotAt, wordsOf}
 use Rattle.encode.proofs.Emitting.{slot-length, slots-length}
 
 -- six words in a row
-six-words : (words : List ℕ) (at : ℕ) → at + 6 ≤ length words
-    → take 6 (drop at words)
-    ≡ getD words at 0 ∷ getD words (at + 1) 0 ∷ getD words (at + 2) 0 ∷ getD words (at + 3) 0 ∷ getD words (at + 4) 0 ∷ getD words (at + 5) 0 ∷ []
+six-words : (words : List ℕ) (at : ℕ) → at + slotWords ≤ length words
+    → take slotWords (drop at words)
+    ≡ getD words (at + keyField) 0 ∷ getD words (at + leftField) 0 ∷ getD words (at + rightField) 0 ∷ getD words (at + leaderField) 0 ∷ getD words (at + rankField) 0 ∷ getD words (at + countField) 0 ∷ []
 six-words words at h =
-    rw (add-one, add-two, add-three, add-four, add-five)
+    rw (add-zero, add-one, add-two, add-three, add-four, add-five)
     (ap (take 6)
     (drop-cons words at 0 (omega arith)
     ∙ ap (λ (xs : List ℕ). getD words at 0 ∷ xs)
@@ -35,12 +36,12 @@ six-words words at h =
     ∙ ap (λ (xs : List ℕ). getD words (suc (suc (suc (suc at)))) 0 ∷ xs)
     (drop-cons words (suc (suc (suc (suc (suc at))))) 0 (omega arith))))))))
 
-pub same-six : (words : List ℕ) (at a b c d e f : ℕ) → at + 6 ≤ length words
-    → same (take 6 (drop at words)) (a ∷ b ∷ c ∷ d ∷ e ∷ f ∷ [])
-    ≡ (eqb (getD words at 0) a && (eqb (getD words (at + 1) 0) b && (eqb (getD words (at + 2) 0) c && (eqb (getD words (at + 3) 0) d && (eqb (getD words (at + 4) 0) e && eqb (getD words (at + 5) 0) f)))))
+pub same-six : (words : List ℕ) (at a b c d e f : ℕ) → at + slotWords ≤ length words
+    → same (take slotWords (drop at words)) (a ∷ b ∷ c ∷ d ∷ e ∷ f ∷ [])
+    ≡ (eqb (getD words (at + keyField) 0) a && (eqb (getD words (at + leftField) 0) b && (eqb (getD words (at + rightField) 0) c && (eqb (getD words (at + leaderField) 0) d && (eqb (getD words (at + rankField) 0) e && eqb (getD words (at + countField) 0) f)))))
 same-six words at a b c d e f h =
     ap (λ (xs : List ℕ). same xs (a ∷ b ∷ c ∷ d ∷ e ∷ f ∷ [])) (six-words words at h)
-    ∙ ap (λ t. eqb (getD words at 0) a && (eqb (getD words (at + 1) 0) b && (eqb (getD words (at + 2) 0) c && (eqb (getD words (at + 3) 0) d && (eqb (getD words (at + 4) 0) e && t))))) (and-true (eqb (getD words (at + 5) 0) f))
+    ∙ ap (λ t. eqb (getD words (at + keyField) 0) a && (eqb (getD words (at + leftField) 0) b && (eqb (getD words (at + rightField) 0) c && (eqb (getD words (at + leaderField) 0) d && (eqb (getD words (at + rankField) 0) e && t))))) (and-true (eqb (getD words (at + countField) 0) f))
 
 -- ---- a table's words from word to word
 module _ (order : ℕ) (keys : List ℕ) (root : ℕ) (c : Columns) (slots : List ℕ) where

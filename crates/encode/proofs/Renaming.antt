@@ -8,30 +8,18 @@ use native.Mathlib.Nat.{suc-add, add-suc}
 use native.Mathlib.Omega.{arith}
 use lib.Dec.{eqb}
 use lib.ListN.{length, getD, take, set, replicate, length-append}
-use lib.Seq.{append-snoc, getD-append-seam, getD-take}
+use lib.Seq.{append-snoc, getD-append-seam}
 use borrow.Author.Tests.{ne-eqb}
 use Rattle.lists.specs.Lists.{member, upFrom, All, Rising}
 use Rattle.lists.proofs.Keep.{all-map, all-at}
 use Rattle.lists.proofs.Membership.{all-member}
-use Rattle.lists.proofs.UpFrom.{upFrom-length, upFrom-at, upFrom-within}
+use Rattle.lists.proofs.UpFrom.{upFrom-within, mapped-at}
 use Rattle.treap.specs.Slots.{firstEmpty, placeAll}
 use Rattle.structure.proofs.Relabel.{Renames}
 use Rattle.columns.specs.Positions.{positions, weightAt}
 use Rattle.encode.specs.Encode.{keyAt}
 
 -- ---- lists
--- an element of a map, whatever stands for what is not there
-pub getD-of-map : (f : ℕ → ℕ) (xs : List ℕ) (i d e : ℕ) → i < length xs → getD (map f xs) i d ≡ f (getD xs i e)
-getD-of-map f [] i d e h = absurd (omega arith)
-getD-of-map f (x ∷ xs) zero d e h = refl
-getD-of-map f (x ∷ xs) (suc i) d e h = getD-of-map f xs i d e (omega arith)
-
--- a column's entry at a position
-pub column-entry : (column : List ℕ) (g : ℕ → ℕ) (n : ℕ) → take n column ≡ map g (positions n) → (i : ℕ) → i < n → getD column i 0 ≡ g (suc i)
-column-entry column g n e i h =
-    sym (getD-take n column i 0 h) ∙ ap (λ (xs : List ℕ). getD xs i 0) e
-    ∙ getD-of-map g (positions n) i 0 0 (omega (arith, upFrom-length 1 n)) ∙ ap g (upFrom-at 1 n i 0 h ∙ omega arith)
-
 -- functions with one map agree on the elements
 pub maps-agree : (g h : ℕ → ℕ) (xs : List ℕ) → map g xs ≡ map h xs → All (λ x. g x ≡ h x) xs
 maps-agree g h [] e = tt
@@ -84,7 +72,7 @@ module _ (p : ℕ → ℕ) (keys : List ℕ) (rising : Rising keys) where
 
       keep-priority : (i : ℕ) → (1 ≤ i) × (i < 1 + length keys) → p (keyAt keys i) ≡ weightAt (map p keys) i
       keep-priority zero a = absurd (omega arith)
-      keep-priority (suc i) a = ap p (key-at-suc keys i) ∙ sym (getD-of-map p keys i 0 0 (omega arith))
+      keep-priority (suc i) a = ap p (key-at-suc keys i) ∙ sym (mapped-at p keys i (omega arith))
 
 -- no position and no key is zero
 pub keys-apart : (keys : List ℕ) → All (λ k. 1 ≤ k) keys → All (λ i. (i ≢ 0) × (keyAt keys i ≢ 0)) (positions (length keys))

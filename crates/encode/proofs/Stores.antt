@@ -3,12 +3,14 @@ use mathlib.Core.Bool.{Bool, true, false, cond}
 use mathlib.Core.List.{List, [], _∷_, _++_, append-assoc}
 use mathlib.Core.Path.{_≡_, refl, sym, ap, ap₂, _∙_, subst}
 use Prim.Native.Nat.{ℕ, zero, suc, pred, _+_, _-_, _<_, _≤_}
+use native.Mathlib.Nat.{add-zero}
 use native.Mathlib.Numerals.{add-one, add-two, add-three, add-four, add-five, sub-one}
 use native.Mathlib.Omega.{arith}
 use lib.ListN.{length, getD, set, take, drop}
 use lib.Seq.{sets, sets-eq}
 use borrow.Author.Tests.{eq-eqb, ne-eqb}
 use Rattle.lists.specs.Lists.{overwrite}
+use Rattle.table.specs.Layout.{slotWords, keyField, leftField, rightField, leaderField, rankField, countField}
 use Rattle.encode.specs.Encode.{keyAt, Columns, slotAt}
 
 pub key-at-none : (keys : List ℕ) (position : ℕ) → position ≡ 0 → 0 ≡ keyAt keys position
@@ -24,11 +26,11 @@ pub stores : (words : List ℕ) (at : ℕ) (new : List ℕ) → at + length new 
 unfolding overwrite
 stores words at new h = sets-eq new words at h ∙ append-assoc (take at words) new (drop (at + length new) words)
 
-pub slot-stores : (words : List ℕ) (at a b c d e f : ℕ) → at + 6 ≤ length words
-    → set (set (set (set (set (set words at a) (at + 1) b) (at + 2) c) (at + 3) d) (at + 4) e) (at + 5) f
+pub slot-stores : (words : List ℕ) (at a b c d e f : ℕ) → at + slotWords ≤ length words
+    → set (set (set (set (set (set words (at + keyField) a) (at + leftField) b) (at + rightField) c) (at + leaderField) d) (at + rankField) e) (at + countField) f
     ≡ overwrite words at (a ∷ b ∷ c ∷ d ∷ e ∷ f ∷ [])
 slot-stores words at a b c d e f h =
-    rw (add-one, add-two, add-three, add-four, add-five) (stores words at (a ∷ b ∷ c ∷ d ∷ e ∷ f ∷ []) h)
+    rw (add-zero, add-one, add-two, add-three, add-four, add-five) (stores words at (a ∷ b ∷ c ∷ d ∷ e ∷ f ∷ []) h)
 
 -- the words of a slot, empty or not
 pub slot-none : (keys : List ℕ) (c : Columns) (position : ℕ) → position ≡ 0 → 0 ∷ 0 ∷ 0 ∷ 0 ∷ 0 ∷ 0 ∷ [] ≡ slotAt keys c position

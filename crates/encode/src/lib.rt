@@ -6,8 +6,14 @@ ghost use lib.ListN.{length, take, drop};
 ghost use Rattle.lists.specs.Lists.{overwrite, same, All};
 ghost use Rattle.table.specs.Layout.{tableWords, slotWords};
 ghost use Rattle.encode.specs.Encode.{keyAt, slotAt, wordsOf, Linked};
+use table::COUNT_FIELD;
 use table::HEADER_WORDS;
+use table::KEY_FIELD;
+use table::LEADER_FIELD;
+use table::LEFT_FIELD;
 use table::ORDER_WORD;
+use table::RANK_FIELD;
+use table::RIGHT_FIELD;
 use table::ROOT_WORD;
 use table::SIZE_WORD;
 use table::SLOT_WORDS;
@@ -37,12 +43,12 @@ fn write_slot(
     requires { ⌜ at + slotWords ≤ length (now table) ⌝ }
     ensures { λ _. ⌜ now (table .exit) ≡ overwrite (now (table .entry)) at (key ∷ left ∷ right ∷ leader ∷ rank ∷ count ∷ []) ⌝ }
 {
-    table[at] = key;
-    table[at + 1] = left;
-    table[at + 2] = right;
-    table[at + 3] = leader;
-    table[at + 4] = rank;
-    table[at + 5] = count;
+    table[at + KEY_FIELD] = key;
+    table[at + LEFT_FIELD] = left;
+    table[at + RIGHT_FIELD] = right;
+    table[at + LEADER_FIELD] = leader;
+    table[at + RANK_FIELD] = rank;
+    table[at + COUNT_FIELD] = count;
 }
 
 // Write the slot that a position is in, from word `at` on.
@@ -123,22 +129,22 @@ fn slot_is(
     requires { ⌜ at + slotWords ≤ length (now table) ⌝ }
     ensures { λ r. ⌜ r ≡ same (take slotWords (drop at (now (table .entry)))) (key ∷ left ∷ right ∷ leader ∷ rank ∷ count ∷ []) ⌝ }
 {
-    if table[at] != key {
+    if table[at + KEY_FIELD] != key {
         return false;
     }
-    if table[at + 1] != left {
+    if table[at + LEFT_FIELD] != left {
         return false;
     }
-    if table[at + 2] != right {
+    if table[at + RIGHT_FIELD] != right {
         return false;
     }
-    if table[at + 3] != leader {
+    if table[at + LEADER_FIELD] != leader {
         return false;
     }
-    if table[at + 4] != rank {
+    if table[at + RANK_FIELD] != rank {
         return false;
     }
-    table[at + 5] == count
+    table[at + COUNT_FIELD] == count
 }
 
 // Whether the slot from word `at` on is the one that a position is in.

@@ -8,20 +8,20 @@ use native.Mathlib.Omega.{arith}
 use lib.Dec.{eqb, ltb}
 use lib.ListN.{length}
 use borrow.Author.Tests.{ne-eqb, lt-ltb, le-ltb}
-use Rattle.table.specs.Contents.{Contents, newOrder}
+use Rattle.lists.proofs.Tests.{lies-says}
+use Rattle.table.specs.Layout.{mostSlots, leastOrder, greatestOrder}
+use Rattle.table.specs.Contents.{Contents, tableOrder, newOrder}
 use Rattle.table.specs.Table.{fresh}
 use Rattle.judge.specs.Judge.{slotsFor}
 use Rattle.judge.proofs.Lengths.{SlotsOf, slots-for-some}
 use Rattle.assemble.specs.Assemble.{Keys}
-use Rattle.sized.specs.Sized.{Writable}
-use Rattle.sized.proofs.Fitting.{writable-when}
 use Rattle.replies.specs.Replies.{builtOf}
 use Rattle.replies.specs.declared.Refusal.the-variants.{WrongLength, WrongOrder, NotRising, TooManyKeys}
 use Rattle.replies.specs.declared.Built.{Built}
 use Rattle.replies.specs.declared.Built.the-variants.{Done, Refused}
 use Rattle.calls.specs.Reasons.{wrongLength, wrongOrder, risingKeys, notRising, tooManyKeys}
 use Rattle.calls.specs.Calls.{rewritten, buildRefusal, buildReply, buildAfter}
-use Rattle.index.proofs.Tests.{order-within, rising-says}
+use Rattle.index.proofs.Tests.{rising-says}
 
 module _ (words : List ℕ) (order : ℕ) (list : List ℕ) where
   -- What a build that answers so and leaves these words meets.
@@ -61,11 +61,11 @@ module _ (words : List ℕ) (order : ℕ) (list : List ℕ) where
               rw (right-length, right, rise, fit) (e ∙ ap (λ (n : ℕ). fresh n contents) here),
             )
 
-        pub can-be-written : many ≤ 4096 → length list ≤ many → Writable order many list
+        pub can-be-written : many ≤ mostSlots → length list ≤ many → Keys order list
+        unfolding newOrder tableOrder
         can-be-written most fit =
-            let within = order-within order right in
+            let within = lies-says leastOrder greatestOrder order right in
             let keys = rising-says list rise in
-            let can : Keys order list =
             record {
               wide = omega (arith, within .0);
               narrow = within .1;
@@ -73,4 +73,3 @@ module _ (words : List ℕ) (order : ℕ) (list : List ℕ) where
               some = keys .1;
               few = omega arith;
             }
-            in writable-when order many list can (omega arith) fit

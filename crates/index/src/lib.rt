@@ -20,10 +20,7 @@ use table::ORDER_WORD;
 fn is_new_order(order: u64) -> bool
     ensures { λ r. ⌜ r ≡ newOrder order ⌝ }
 {
-    if order < LEAST_ORDER {
-        return false;
-    }
-    order <= GREATEST_ORDER
+    ranges::is_within(order, LEAST_ORDER, GREATEST_ORDER)
 }
 
 // Whether the list rises strictly and has no zero.

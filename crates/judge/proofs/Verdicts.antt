@@ -1,23 +1,21 @@
 -- What the tests of examining say of the verdict. Assumes nothing.
-use mathlib.Core.Bool.{Bool, true, false, cond, _&&_, not}
+use mathlib.Core.Bool.{Bool, true, false, cond}
 use mathlib.Core.Logic.{_≢_}
 use mathlib.Core.List.{List}
-use mathlib.Core.Path.{_≡_, refl, sym, ap, ap₂, _∙_, subst}
-use Prim.Native.Nat.{ℕ, _<_, _≤_, _^_}
+use mathlib.Core.Path.{_≡_, refl, sym, ap, ap₂, _∙_}
+use Prim.Native.Nat.{ℕ, _≤_}
 use native.Mathlib.Omega.{arith}
-use lib.Dec.{leb, eqb}
 use lib.ListN.{length, getD, take}
-use borrow.Author.Tests.{le-leb, lt-leb, ne-eqb, eq-eqb}
-use Rattle.lists.specs.Lists.{risesB, same, overwrite, All, Rising}
-use Rattle.lists.proofs.Tests.{true-or-false, and-false-right, and-both}
+use borrow.Author.Tests.{ne-eqb}
+use Rattle.lists.specs.Lists.{lies, risesB, same, overwrite}
+use Rattle.lists.proofs.Tests.{lies-says}
 use Rattle.lists.proofs.Rising.{rises-says}
 use Rattle.lists.proofs.Start.{starts-with}
-use Rattle.table.specs.Layout.{mostSlots, orderWord}
+use Rattle.table.specs.Layout.{mostSlots, leastOrder, greatestOrder, orderWord}
 use Rattle.table.specs.Contents.{Contents, tableOrder}
 use Rattle.table.specs.Table.{fresh, contentsOf}
 use Rattle.table.specs.Sound.{soundWith}
-use Rattle.table.proofs.Soundness.{shown-fit}
-use Rattle.decode.proofs.Held.{sorted-held-nonzero, contents-keys}
+use Rattle.table.proofs.Soundness.{shown-fit, shown-nonzero}
 use Rattle.assemble.specs.Assemble.{Keys}
 use Rattle.judge.specs.declared.Verdict.{Verdict}
 use Rattle.judge.specs.declared.Verdict.the-variants.{Sound, Unsound}
@@ -37,26 +35,20 @@ says-cond false n = refl
 
 module _ (many : ℕ) (words : List ℕ) where
   -- an order that no table has
-  pub order-low : getD words 0 0 < 3 → soundWith many words ≡ false
+  pub order-wrong : lies leastOrder greatestOrder (getD words orderWord 0) ≡ false → soundWith many words ≡ false
   unfolding soundWith contentsOf tableOrder
-  order-low h = rw (lt-leb 3 (getD words 0 0) h)
-
-  pub order-high : 255 < getD words 0 0 → soundWith many words ≡ false
-  unfolding soundWith contentsOf tableOrder
-  order-high h = ap (λ b. b && (risesB (contentsOf many words .keys) && same words (fresh many (contentsOf many words)))) (and-false-right (leb 3 (getD words 0 0)) (leb (getD words 0 0) 255) (lt-leb (getD words 0 0) 255 h))
-
-  right-order : 3 ≤ getD words 0 0 → getD words 0 0 ≤ 255 → tableOrder (contentsOf many words .order) ≡ true
-  unfolding contentsOf tableOrder
-  right-order h k = and-both (leb 3 (getD words 0 0)) (leb (getD words 0 0) 255) (le-leb 3 (getD words 0 0) h) (le-leb (getD words 0 0) 255 k)
+  order-wrong e = rw e
 
   -- the other tests, once the order is one
-  pub keys-do-not-rise : 3 ≤ getD words 0 0 → getD words 0 0 ≤ 255 → risesB (contentsOf many words .keys) ≡ false → soundWith many words ≡ false
-  unfolding soundWith
-  keys-do-not-rise h k e = rw (right-order h k, e)
+  pub keys-do-not-rise : lies leastOrder greatestOrder (getD words orderWord 0) ≡ true → risesB (contentsOf many words .keys) ≡ false
+      → soundWith many words ≡ false
+  unfolding soundWith contentsOf tableOrder
+  keys-do-not-rise right e = rw (right, e)
 
-  pub decided : 3 ≤ getD words 0 0 → getD words 0 0 ≤ 255 → risesB (contentsOf many words .keys) ≡ true → soundWith many words ≡ same words (fresh many (contentsOf many words))
-  unfolding soundWith
-  decided h k e = rw (right-order h k, e)
+  pub decided : lies leastOrder greatestOrder (getD words orderWord 0) ≡ true → risesB (contentsOf many words .keys) ≡ true
+      → soundWith many words ≡ same words (fresh many (contentsOf many words))
+  unfolding soundWith contentsOf tableOrder
+  decided right e = rw (right, e)
 
   pub unsound : soundWith many words ≡ false → Unsound ≡ verdictOf many words
   unfolding verdictOf
@@ -89,17 +81,19 @@ module _ (many : ℕ) (words : List ℕ) where
   pub keys-read : (lent keys : List ℕ) (n : ℕ) → keys ≡ overwrite lent 0 (contentsOf many words .keys) → n ≡ length (contentsOf many words .keys) → take n keys ≡ contentsOf many words .keys
   keys-read lent keys n e h = starts-with keys lent (contentsOf many words .keys) n e (sym h)
 
-  pub can-be-compared : many ≤ mostSlots → 3 ≤ getD words 0 0 → getD words 0 0 ≤ 255 → risesB (contentsOf many words .keys) ≡ true → Keys (getD words 0 0) (contentsOf many words .keys)
-  can-be-compared few low high e =
+  pub can-be-compared : many ≤ mostSlots → lies leastOrder greatestOrder (getD words orderWord 0) ≡ true
+      → risesB (contentsOf many words .keys) ≡ true → Keys (getD words orderWord 0) (contentsOf many words .keys)
+  can-be-compared few right e =
+      let within = lies-says leastOrder greatestOrder (getD words orderWord 0) right in
       record {
-        wide = omega arith;
-        narrow = high;
+        wide = omega (arith, within .0);
+        narrow = within .1;
         rising = rises-says (contentsOf many words .keys) e;
-        some = subst (All (λ k. 1 ≤ k)) (sym (contents-keys words many)) (sorted-held-nonzero words many);
+        some = shown-nonzero many words;
         few = omega (arith, shown-fit many words);
       }
 
-  pub compared : (order : ℕ) (keys : List ℕ) (slots : ℕ) → order ≡ getD words 0 0 → keys ≡ contentsOf many words .keys → slots ≡ many
+  pub compared : (order : ℕ) (keys : List ℕ) (slots : ℕ) → order ≡ getD words orderWord 0 → keys ≡ contentsOf many words .keys → slots ≡ many
       → same words (fresh slots (record { order = order; keys = keys })) ≡ same words (fresh many (contentsOf many words))
   unfolding contentsOf
   compared order keys slots e f g =

@@ -5,14 +5,14 @@ ghost use lib.ListN.{length, take};
 ghost use Rattle.lists.specs.Lists.{lies, overwrite};
 ghost use Rattle.ranges.specs.Ranges.{within};
 
-// Whether a key lies from `low` to `high`, both included. Internal to this library's crates.
-pub fn is_within(key: u64, low: u64, high: u64) -> bool
-    ensures { λ r. ⌜ r ≡ lies low high key ⌝ }
+// Whether a number lies from `low` to `high`, both included. Internal to this library's crates.
+pub fn is_within(number: u64, low: u64, high: u64) -> bool
+    ensures { λ r. ⌜ r ≡ lies low high number ⌝ }
 {
-    if key < low {
+    if number < low {
         return false;
     }
-    key <= high
+    number <= high
 }
 
 // How many of the first `n` keys lie from `low` to `high`. Internal to this library's crates.

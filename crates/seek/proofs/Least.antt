@@ -15,7 +15,7 @@ use Rattle.lists.proofs.Membership.{first-found}
 use Rattle.lists.proofs.Sorted.{sorted-all, sorted-ordered, sorted-more}
 use Rattle.lists.proofs.UpFrom.{upFrom-end}
 use Rattle.table.specs.Layout.{keyIn, slotKeys}
-use Rattle.table.specs.Table.{contentsOf}
+use Rattle.table.specs.Table.{heldKeys, contentsOf}
 use Rattle.seek.specs.Seek.{leastWithin, lesser}
 
 -- ---- a key put in its place among others
@@ -58,7 +58,7 @@ module _ (words : List ℕ) (slot : ℕ) where
   held-more = ap (keep nonzero) slot-more ∙ keep-append nonzero (slotKeys slot words) (keyIn words slot ∷ [])
 
   shown-same : keyIn words slot ≡ 0 → contentsOf (suc slot) words .keys ≡ contentsOf slot words .keys
-  unfolding contentsOf
+  unfolding contentsOf heldKeys
   shown-same e =
       ap (sortBy ltb)
       (held-more
@@ -66,7 +66,7 @@ module _ (words : List ℕ) (slot : ℕ) where
       ∙ append-nil (keep nonzero (slotKeys slot words)))
 
   shown-more : keyIn words slot ≢ 0 → contentsOf (suc slot) words .keys ≡ insertBy ltb (keyIn words slot) (contentsOf slot words .keys)
-  unfolding contentsOf
+  unfolding contentsOf heldKeys
   shown-more d =
       ap (sortBy ltb)
       (held-more
@@ -74,11 +74,11 @@ module _ (words : List ℕ) (slot : ℕ) where
       ∙ sorted-more (keep nonzero (slotKeys slot words)) (keyIn words slot)
 
   shown-sorted : Pairwise _≤_ (contentsOf slot words .keys)
-  unfolding contentsOf
+  unfolding contentsOf heldKeys
   shown-sorted = sorted-ordered (keep nonzero (slotKeys slot words))
 
   shown-some : All (λ k. 1 ≤ k) (contentsOf slot words .keys)
-  unfolding contentsOf
+  unfolding contentsOf heldKeys
   shown-some =
       sorted-all (λ k. 1 ≤ k) (keep nonzero (slotKeys slot words))
       (all-map (λ k. nonzero k ≡ true) (λ k. 1 ≤ k) nonzero-says (keep nonzero (slotKeys slot words)) (kept-pass nonzero (slotKeys slot words)))
@@ -95,7 +95,7 @@ module _ (words : List ℕ) (slot : ℕ) where
       ∙ first-put (lies low high) (keyIn words slot) (contentsOf slot words .keys) shown-sorted shown-some))
 
 pub least-none : (words : List ℕ) (low high : ℕ) → 0 ≡ leastWithin low high (contentsOf 0 words .keys)
-unfolding leastWithin contentsOf slotKeys
+unfolding leastWithin contentsOf heldKeys slotKeys
 least-none words low high = refl
 
 -- ---- the lesser of two, test by test

@@ -1,10 +1,10 @@
 // Writing a table with no more room to work in than tables of about its size need.
 ghost use mathlib.Core.Path.{_≡_};
-ghost use Prim.Native.Nat.{_≤_};
+ghost use Prim.Native.Nat.{_<_, _≤_};
 ghost use lib.ListN.{length};
 ghost use Rattle.table.specs.Layout.{mostSlots, tableWords};
 ghost use Rattle.table.specs.Table.{fresh};
-ghost use Rattle.sized.specs.Sized.{Writable};
+ghost use Rattle.assemble.specs.Assemble.{Keys};
 
 // Write the table of the order and the keys, in lists that are at least as long as it has slots.
 fn write_within(
@@ -21,7 +21,8 @@ fn write_within(
     slots: &mut [u64],
     table: &mut [u64],
 )
-    requires { ⌜ Writable order many (now keys) × (length (now table) ≡ tableWords many) × (many ≤ length (now slots)) ⌝ }
+    requires { ⌜ Keys order (now keys) ⌝ }
+    requires { ⌜ (0 < many) × (length (now keys) ≤ many) × (length (now table) ≡ tableWords many) × (many ≤ length (now slots)) ⌝ }
     requires { ⌜ (many ≤ length (now weights)) × (many ≤ length (now ranking)) × (many ≤ length (now left)) × (many ≤ length (now right)) ⌝ }
     requires { ⌜ (many ≤ length (now rank)) × (many ≤ length (now count)) × (many ≤ length (now leader)) ⌝ }
     ensures { λ _. ⌜ now (table .exit) ≡ fresh many (record { order = order; keys = now (keys .entry) }) ⌝ }
@@ -43,7 +44,8 @@ fn write_within(
 
 // A table of up to 64 slots.
 fn write_small(order: u64, keys: &[u64], many: usize, table: &mut [u64])
-    requires { ⌜ Writable order many (now keys) × (length (now table) ≡ tableWords many) × (many ≤ 64) ⌝ }
+    requires { ⌜ Keys order (now keys) ⌝ }
+    requires { ⌜ (0 < many) × (length (now keys) ≤ many) × (length (now table) ≡ tableWords many) × (many ≤ 64) ⌝ }
     ensures { λ _. ⌜ now (table .exit) ≡ fresh many (record { order = order; keys = now (keys .entry) }) ⌝ }
 {
     let mut weights = [0u64; 64];
@@ -72,7 +74,8 @@ fn write_small(order: u64, keys: &[u64], many: usize, table: &mut [u64])
 
 // A table of up to 512 slots.
 fn write_medium(order: u64, keys: &[u64], many: usize, table: &mut [u64])
-    requires { ⌜ Writable order many (now keys) × (length (now table) ≡ tableWords many) × (many ≤ 512) ⌝ }
+    requires { ⌜ Keys order (now keys) ⌝ }
+    requires { ⌜ (0 < many) × (length (now keys) ≤ many) × (length (now table) ≡ tableWords many) × (many ≤ 512) ⌝ }
     ensures { λ _. ⌜ now (table .exit) ≡ fresh many (record { order = order; keys = now (keys .entry) }) ⌝ }
 {
     let mut weights = [0u64; 512];
@@ -101,7 +104,8 @@ fn write_medium(order: u64, keys: &[u64], many: usize, table: &mut [u64])
 
 // A table of up to 4,096 slots.
 fn write_large(order: u64, keys: &[u64], many: usize, table: &mut [u64])
-    requires { ⌜ Writable order many (now keys) × (length (now table) ≡ tableWords many) × (many ≤ 4096) ⌝ }
+    requires { ⌜ Keys order (now keys) ⌝ }
+    requires { ⌜ (0 < many) × (length (now keys) ≤ many) × (length (now table) ≡ tableWords many) × (many ≤ 4096) ⌝ }
     ensures { λ _. ⌜ now (table .exit) ≡ fresh many (record { order = order; keys = now (keys .entry) }) ⌝ }
 {
     let mut weights = [0u64; 4096];
@@ -130,7 +134,8 @@ fn write_large(order: u64, keys: &[u64], many: usize, table: &mut [u64])
 
 // Write the table of the order and the keys over whatever it held. Internal to this library's crates.
 pub fn write(order: u64, keys: &[u64], many: usize, table: &mut [u64])
-    requires { ⌜ Writable order many (now keys) × (length (now table) ≡ tableWords many) × (many ≤ mostSlots) ⌝ }
+    requires { ⌜ Keys order (now keys) ⌝ }
+    requires { ⌜ (0 < many) × (length (now keys) ≤ many) × (length (now table) ≡ tableWords many) × (many ≤ mostSlots) ⌝ }
     ensures { λ _. ⌜ now (table .exit) ≡ fresh many (record { order = order; keys = now (keys .entry) }) ⌝ }
 {
     if many <= 64 {

@@ -21,7 +21,7 @@ use Rattle.slots.proofs.Placing.{empties, first-empty-is, empties-set, empties-
 use Rattle.table.specs.Table.{homeIn}
 
 -- The keys in the slots that are not empty.
-abbrev pub held : List ℕ → List ℕ
+abbrev held : List ℕ → List ℕ
 held slots = keep nonzero slots
 
 held-set : (slots : List ℕ) (i v : ℕ) → i < length slots → getD slots i 0 ≡ 0 → v ≢ 0 → List·Permᴰ (held (set slots i v)) (v ∷ held slots)

@@ -9,20 +9,20 @@ use lib.Dec.{ltb}
 use Rattle.lists.specs.Lists.{sortBy}
 use Rattle.lists.proofs.Keep.{all-map}
 use Rattle.lists.proofs.Sorted.{sorted-permutes, sorted-ordered, sorted-unique, sorted-rising-fixed}
-use Rattle.table.specs.Layout.{slotKeys}
 use Rattle.table.specs.Contents.{Contents, IsKey, Valid}
-use Rattle.table.specs.Table.{fresh, contentsOf}
+use Rattle.table.specs.Table.{fresh, heldKeys, contentsOf}
 use Rattle.table.proofs.Words.{fresh-order, fresh-keys}
-use Rattle.table.proofs.Held.{held, held-keys-permute}
+use Rattle.table.proofs.Held.{held-keys-permute}
 
-keys-of-fresh : (many : ℕ) (c : Contents) → 1 ≤ many → Valid many c → sortBy ltb (held (slotKeys many (fresh many c))) ≡ c .keys
+keys-of-fresh : (many : ℕ) (c : Contents) → 1 ≤ many → Valid many c → sortBy ltb (heldKeys many (fresh many c)) ≡ c .keys
+unfolding heldKeys
 keys-of-fresh many c some valid =
     let apart = all-map IsKey (λ k. k ≢ 0) (λ k h e. omega arith) (c .keys) (valid .keys-right) in
-    let shown : List·Permᴰ (held (slotKeys many (fresh many c))) (c .keys) =
+    let shown : List·Permᴰ (heldKeys many (fresh many c)) (c .keys) =
     rw fresh-keys (held-keys-permute many (c .keys) some (valid .keys-fit) apart)
     in
     sym
-    (sorted-unique (held (slotKeys many (fresh many c))) (sortBy ltb (c .keys))
+    (sorted-unique (heldKeys many (fresh many c)) (sortBy ltb (c .keys))
     (List·Permᴰ·trans (sorted-permutes (c .keys)) (Permᴰ·symm shown)) (sorted-ordered (c .keys)))
     ∙ sorted-rising-fixed (c .keys) (valid .keys-rise)
 

@@ -1,54 +1,88 @@
--- `soundWith` decides soundness. Assumes a number of slots that a table may have, and words that are 64-bit numbers.
+-- What the words of any table show, and that `soundWith` decides soundness. Assumes a number of slots that a table may have, and
+-- words that are 64-bit numbers, where it says so.
 use mathlib.Core.Bool.{true, _&&_}
 use mathlib.Core.List.{List}
-use mathlib.Core.Path.{_≡_, refl, ap, _∙_, subst}
+use mathlib.Core.Path.{_≡_, refl, sym, ap, _∙_, subst}
 use Prim.Native.Nat.{ℕ, _+_, _^_, _≤_, _<_}
+use native.Mathlib.Nat.{zero-add}
 use native.Mathlib.Omega.{arith}
+use lib.Dec.{ltb}
 use lib.ListN.{length, getD, length-map}
-use Rattle.lists.specs.Lists.{nonzero, All, same, upFrom, risesB}
+use lib.Seq.{take-length}
+use Rattle.lists.specs.Lists.{nonzero, keep, All, sortBy, same, upFrom, risesB}
+use Rattle.lists.proofs.Copying.{kept}
 use Rattle.lists.proofs.Tests.{nonzero-says, and-left, and-right, and-both}
 use Rattle.lists.proofs.Keep.{all-map, all-both, all-always, all-mapped, all-keep, kept-pass, length-keep}
 use Rattle.lists.proofs.Membership.{same-says, same-when}
 use Rattle.lists.proofs.Rising.{rises-says, rises-when}
 use Rattle.lists.proofs.Sorted.{sorted-all, sorted-length}
-use Rattle.lists.proofs.UpFrom.{upFrom-length}
+use Rattle.lists.proofs.UpFrom.{upFrom-length, mapped-upFrom-at}
 use Rattle.table.specs.Layout.{mostSlots, keyField, tableWords, slotStart, keyIn, slotKeys}
 use Rattle.table.specs.Contents.{Contents, tableOrder, IsKey, Valid}
-use Rattle.table.specs.Table.{fresh, Sound, contentsOf}
+use Rattle.table.specs.Table.{fresh, Sound, heldKeys, contentsOf}
 use Rattle.table.specs.Sound.{soundWith}
 use Rattle.table.proofs.Words.{fresh-length}
-use Rattle.table.proofs.Held.{held}
 use Rattle.table.proofs.Reading.{contents-of-fresh}
-
--- ---- what any table shows: at most as many keys as slots, and each of them a key
-slotKeys-length : (many : ℕ) (words : List ℕ) → length (slotKeys many words) ≡ many
-unfolding slotKeys
-slotKeys-length many words = length-map (upFrom 0 many) (keyIn words) ∙ upFrom-length 0 many
-
-pub shown-fit : (many : ℕ) (words : List ℕ) → length (contentsOf many words .keys) ≤ many
-unfolding contentsOf
-shown-fit many words =
-    let slots = slotKeys many words in
-    omega (arith, sorted-length (held slots), length-keep nonzero slots, slotKeys-length many words)
 
 -- Every word is a 64-bit number.
 abbrev pub WordSized : List ℕ → Type 0
 WordSized words = (i : ℕ) → getD words i 0 < 2 ^ 64
 
-slotKeys-bounded : (many : ℕ) (words : List ℕ) → WordSized words → All (λ k. k < 2 ^ 64) (slotKeys many words)
-unfolding slotKeys
-slotKeys-bounded many words bounded =
-    all-mapped (λ k. k < 2 ^ 64) (keyIn words) (upFrom 0 many)
-    (all-always (λ s. keyIn words s < 2 ^ 64) (λ s. bounded (slotStart s + keyField)) (upFrom 0 many))
+-- ---- what stands in the slots of any table, which of it is held, and what the table shows
+module _ (many : ℕ) (words : List ℕ) where
+  pub slotKeys-length : length (slotKeys many words) ≡ many
+  unfolding slotKeys
+  slotKeys-length = length-map (upFrom 0 many) (keyIn words) ∙ upFrom-length 0 many
 
-pub shown-keys : (many : ℕ) (words : List ℕ) → WordSized words → All IsKey (contentsOf many words .keys)
-unfolding contentsOf
-shown-keys many words bounded =
-    let slots = slotKeys many words in
-    sorted-all IsKey (held slots)
-    (all-map (λ k. (nonzero k ≡ true) × (k < 2 ^ 64)) IsKey (λ k h. (nonzero-says k (h .0), h .1)) (held slots)
-    (all-both (λ k. nonzero k ≡ true) (λ k. k < 2 ^ 64) (held slots) (kept-pass nonzero slots)
-    (all-keep (λ k. k < 2 ^ 64) nonzero slots (slotKeys-bounded many words bounded))))
+  pub slotKeys-at : (slot : ℕ) → slot < many → getD (slotKeys many words) slot 0 ≡ keyIn words slot
+  unfolding slotKeys
+  slotKeys-at slot h = mapped-upFrom-at (keyIn words) 0 many slot h ∙ ap (keyIn words) (zero-add slot)
+
+  slotKeys-sized : WordSized words → All (λ k. k < 2 ^ 64) (slotKeys many words)
+  unfolding slotKeys
+  slotKeys-sized sized =
+      all-mapped (λ k. k < 2 ^ 64) (keyIn words) (upFrom 0 many)
+      (all-always (λ s. keyIn words s < 2 ^ 64) (λ s. sized (slotStart s + keyField)) (upFrom 0 many))
+
+  pub held-fit : length (heldKeys many words) ≤ many
+  unfolding heldKeys
+  held-fit = omega (arith, length-keep nonzero (slotKeys many words), slotKeys-length)
+
+  pub held-nonzero : All (λ k. 1 ≤ k) (heldKeys many words)
+  unfolding heldKeys
+  held-nonzero = all-map (λ k. nonzero k ≡ true) (λ k. 1 ≤ k) nonzero-says (heldKeys many words) (kept-pass nonzero (slotKeys many words))
+
+  pub held-keys : WordSized words → All IsKey (heldKeys many words)
+  unfolding heldKeys
+  held-keys sized =
+      all-both (λ k. 1 ≤ k) (λ k. k < 2 ^ 64) (heldKeys many words) held-nonzero
+      (all-keep (λ k. k < 2 ^ 64) nonzero (slotKeys many words) (slotKeys-sized sized))
+
+  -- once all slots are passed, those kept are all that are held
+  pub held-kept : kept nonzero (slotKeys many words) many ≡ heldKeys many words
+  unfolding heldKeys
+  held-kept =
+      let slots = slotKeys many words in
+      ap (kept nonzero slots) (sym slotKeys-length) ∙ ap (keep nonzero) (take-length slots)
+
+  pub shown-held : contentsOf many words .keys ≡ sortBy ltb (heldKeys many words)
+  unfolding contentsOf
+  shown-held = refl
+
+  pub shown-length : length (contentsOf many words .keys) ≡ length (heldKeys many words)
+  shown-length = ap length shown-held ∙ sorted-length (heldKeys many words)
+
+  pub shown-fit : length (contentsOf many words .keys) ≤ many
+  shown-fit = omega (arith, shown-length, held-fit)
+
+  shown-all : (P : ℕ → Type 0) → All P (heldKeys many words) → All P (contentsOf many words .keys)
+  shown-all P h = subst (All P) (sym shown-held) (sorted-all P (heldKeys many words) h)
+
+  pub shown-nonzero : All (λ k. 1 ≤ k) (contentsOf many words .keys)
+  shown-nonzero = shown-all (λ k. 1 ≤ k) held-nonzero
+
+  pub shown-keys : WordSized words → All IsKey (contentsOf many words .keys)
+  shown-keys sized = shown-all IsKey (held-keys sized)
 
 -- ---- the test
 module _ (many : ℕ) (words : List ℕ) (passed : soundWith many words ≡ true) where

@@ -1,11 +1,11 @@
 -- What a table holds, whatever its number of slots: document 01's "order and set". Assumes nothing.
-use mathlib.Core.Bool.{Bool, true, _&&_}
+use mathlib.Core.Bool.{Bool, true}
 use mathlib.Core.List.{List}
 use mathlib.Core.Path.{_≡_}
 use Prim.Native.Nat.{ℕ, _^_, _<_, _≤_}
-use lib.Dec.{leb}
 use lib.ListN.{length}
-use Rattle.lists.specs.Lists.{All, Rising}
+use Rattle.lists.specs.Lists.{lies, All, Rising}
+use Rattle.table.specs.Layout.{leastOrder, greatestOrder}
 
 -- An order and a set of keys; the set is the list of its keys, rising.
 pub record Contents : Type 0 where
@@ -14,7 +14,7 @@ pub record Contents : Type 0 where
 
 -- "The order α is 3 to 255": the orders that a table may have.
 unfoldable pub tableOrder : ℕ → Bool
-tableOrder α = leb 3 α && leb α 255
+tableOrder α = lies leastOrder greatestOrder α
 
 -- The orders that may be set up: the same.
 unfoldable pub newOrder : ℕ → Bool

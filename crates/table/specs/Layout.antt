@@ -8,6 +8,13 @@ use Rattle.lists.specs.Lists.{upFrom}
 abbrev pub mostSlots : ℕ
 mostSlots = 4096
 
+-- "The order α is 3 to 255".
+abbrev pub leastOrder : ℕ
+leastOrder = 3
+
+abbrev pub greatestOrder : ℕ
+greatestOrder = 255
+
 -- "Words 0 to 2: α, n, root key. Then each slot: key, left, right, leader, rank, count."
 abbrev pub headerWords : ℕ
 headerWords = 3

@@ -46,7 +46,10 @@ pub record Sound (words : List ℕ) : Type 0 where
   pub valid : Valid many contents
   pub exactly : words ≡ fresh many contents
 
+-- The keys in the slots that are not empty, in the order of slots.
+unfoldable pub heldKeys : ℕ → List ℕ → List ℕ
+heldKeys many words = keep nonzero (slotKeys many words)
+
 -- The order and the set that a table of so many slots shows: its order word, and the keys in its slots, sorted.
 unfoldable pub contentsOf : ℕ → List ℕ → Contents
-contentsOf many words =
-    record { order = getD words orderWord 0; keys = sortBy ltb (keep nonzero (slotKeys many words)) }
+contentsOf many words = record { order = getD words orderWord 0; keys = sortBy ltb (heldKeys many words) }

@@ -12,6 +12,7 @@ use Rattle.table.specs.Contents.{Contents, Valid}
 use Rattle.table.specs.Table.{fresh, contentsOf}
 use Rattle.table.proofs.Words.{fresh-length}
 use Rattle.table.proofs.Soundness.{WordSized, sound-valid}
+use Rattle.assemble.specs.Assemble.{Keys}
 use Rattle.judge.proofs.Verdicts.{told-false}
 use Rattle.edit.specs.Edit.{joined}
 use Rattle.calls.proofs.Examined.{Examined, examined}
@@ -205,9 +206,10 @@ write-requires c κs =
     let q = c .before .before .before .before in
     let p = free-at (put-at q) in
     let start = begun (judged-at p) in
-    let can = valid-keys (many p) (goal p) (start .pre .1) (goal-valid (put-at q)) in
-    let keys = sym (taken q) in
-    ?writereq
+    let right = goal-valid (put-at q) in (
+      subst (Keys (goal p .order)) (sym (taken q)) (valid-keys (many p) (goal p) (start .pre .1) right),
+      (start .pre .0, subst (λ (ks : List ℕ). length ks ≤ many p) (sym (taken q)) (right .keys-fit), start .pre .2, start .pre .1),
+    )
 
 rank-of-requires : tie.Need-rank-of-requires
 rank-of-requires c κs =

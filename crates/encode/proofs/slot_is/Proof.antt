@@ -3,12 +3,16 @@ use mathlib.Core.Path.{sym, _∙_}
 use Prim.Native.Nat.{_+_}
 use lib.ListN.{getD}
 use borrow.Author.Tests.{eq-eqb, ne-eqb}
+use Rattle.table.specs.Layout.{keyField, leftField, rightField, leaderField, rankField}
 use Rattle.encode.proofs.Matching.{same-six}
 use borrow.Author.Needs.{needs}
 use Rattle.encode.proofs.slot_is.Statement.{statement}
 use Rattle.encode.proofs.slot_is.Tie as tie
 use Rattle.encode.proofs.slot_is.Reads as reads
 use Rattle.encode.proofs.slot_is.Lts as lts
+
+add-if1 : tie.Need-add-if1
+add-if1 c = search needs
 
 mul-if1 : tie.Need-mul-if1
 mul-if1 c = search needs
@@ -20,7 +24,7 @@ returns : tie.Need-returns
 returns c =
     let start = c .before .before in
     let a = start .args in
-    sym (same-six (a .table .now) (a .at) (a .key) (a .left) (a .right) (a .leader) (a .rank) (a .count) (start .pre) ∙ rw (ne-eqb (getD (a .table .now) (a .at) 0) (a .key) (c .if1 .taken)))
+    sym (same-six (a .table .now) (a .at) (a .key) (a .left) (a .right) (a .leader) (a .rank) (a .count) (start .pre) ∙ rw (ne-eqb (getD (a .table .now) (a .at + keyField) 0) (a .key) (c .if1 .taken)))
 
 add-if2 : tie.Need-add-if2
 add-if2 c = search needs
@@ -35,7 +39,7 @@ returns-2 : tie.Need-returns-2
 returns-2 c =
     let start = c .before .before .before .before in
     let a = start .args in
-    sym (same-six (a .table .now) (a .at) (a .key) (a .left) (a .right) (a .leader) (a .rank) (a .count) (start .pre) ∙ rw (eq-eqb (getD (a .table .now) (a .at) 0) (a .key) (c .before .before .if1 .left), ne-eqb (getD (a .table .now) (a .at + 1) 0) (a .left) (c .if2 .taken)))
+    sym (same-six (a .table .now) (a .at) (a .key) (a .left) (a .right) (a .leader) (a .rank) (a .count) (start .pre) ∙ rw (eq-eqb (getD (a .table .now) (a .at + keyField) 0) (a .key) (c .before .before .if1 .left), ne-eqb (getD (a .table .now) (a .at + leftField) 0) (a .left) (c .if2 .taken)))
 
 add-if3 : tie.Need-add-if3
 add-if3 c = search needs
@@ -50,7 +54,7 @@ returns-3 : tie.Need-returns-3
 returns-3 c =
     let start = c .before .before .before .before .before .before in
     let a = start .args in
-    sym (same-six (a .table .now) (a .at) (a .key) (a .left) (a .right) (a .leader) (a .rank) (a .count) (start .pre) ∙ rw (eq-eqb (getD (a .table .now) (a .at) 0) (a .key) (c .before .before .before .before .if1 .left), eq-eqb (getD (a .table .now) (a .at + 1) 0) (a .left) (c .before .before .if2 .left), ne-eqb (getD (a .table .now) (a .at + 2) 0) (a .right) (c .if3 .taken)))
+    sym (same-six (a .table .now) (a .at) (a .key) (a .left) (a .right) (a .leader) (a .rank) (a .count) (start .pre) ∙ rw (eq-eqb (getD (a .table .now) (a .at + keyField) 0) (a .key) (c .before .before .before .before .if1 .left), eq-eqb (getD (a .table .now) (a .at + leftField) 0) (a .left) (c .before .before .if2 .left), ne-eqb (getD (a .table .now) (a .at + rightField) 0) (a .right) (c .if3 .taken)))
 
 add-if4 : tie.Need-add-if4
 add-if4 c = search needs
@@ -65,7 +69,7 @@ returns-4 : tie.Need-returns-4
 returns-4 c =
     let start = c .before .before .before .before .before .before .before .before in
     let a = start .args in
-    sym (same-six (a .table .now) (a .at) (a .key) (a .left) (a .right) (a .leader) (a .rank) (a .count) (start .pre) ∙ rw (eq-eqb (getD (a .table .now) (a .at) 0) (a .key) (c .before .before .before .before .before .before .if1 .left), eq-eqb (getD (a .table .now) (a .at + 1) 0) (a .left) (c .before .before .before .before .if2 .left), eq-eqb (getD (a .table .now) (a .at + 2) 0) (a .right) (c .before .before .if3 .left), ne-eqb (getD (a .table .now) (a .at + 3) 0) (a .leader) (c .if4 .taken)))
+    sym (same-six (a .table .now) (a .at) (a .key) (a .left) (a .right) (a .leader) (a .rank) (a .count) (start .pre) ∙ rw (eq-eqb (getD (a .table .now) (a .at + keyField) 0) (a .key) (c .before .before .before .before .before .before .if1 .left), eq-eqb (getD (a .table .now) (a .at + leftField) 0) (a .left) (c .before .before .before .before .if2 .left), eq-eqb (getD (a .table .now) (a .at + rightField) 0) (a .right) (c .before .before .if3 .left), ne-eqb (getD (a .table .now) (a .at + leaderField) 0) (a .leader) (c .if4 .taken)))
 
 add-if5 : tie.Need-add-if5
 add-if5 c = search needs
@@ -80,7 +84,7 @@ returns-5 : tie.Need-returns-5
 returns-5 c =
     let start = c .before .before .before .before .before .before .before .before .before .before in
     let a = start .args in
-    sym (same-six (a .table .now) (a .at) (a .key) (a .left) (a .right) (a .leader) (a .rank) (a .count) (start .pre) ∙ rw (eq-eqb (getD (a .table .now) (a .at) 0) (a .key) (c .before .before .before .before .before .before .before .before .if1 .left), eq-eqb (getD (a .table .now) (a .at + 1) 0) (a .left) (c .before .before .before .before .before .before .if2 .left), eq-eqb (getD (a .table .now) (a .at + 2) 0) (a .right) (c .before .before .before .before .if3 .left), eq-eqb (getD (a .table .now) (a .at + 3) 0) (a .leader) (c .before .before .if4 .left), ne-eqb (getD (a .table .now) (a .at + 4) 0) (a .rank) (c .if5 .taken)))
+    sym (same-six (a .table .now) (a .at) (a .key) (a .left) (a .right) (a .leader) (a .rank) (a .count) (start .pre) ∙ rw (eq-eqb (getD (a .table .now) (a .at + keyField) 0) (a .key) (c .before .before .before .before .before .before .before .before .if1 .left), eq-eqb (getD (a .table .now) (a .at + leftField) 0) (a .left) (c .before .before .before .before .before .before .if2 .left), eq-eqb (getD (a .table .now) (a .at + rightField) 0) (a .right) (c .before .before .before .before .if3 .left), eq-eqb (getD (a .table .now) (a .at + leaderField) 0) (a .leader) (c .before .before .if4 .left), ne-eqb (getD (a .table .now) (a .at + rankField) 0) (a .rank) (c .if5 .taken)))
 
 add-result : tie.Need-add-result
 add-result c = search needs
@@ -95,12 +99,13 @@ returns-6 : tie.Need-returns-6
 returns-6 c =
     let start = c .before .before .before .before .before .before .before .before .before .before .before in
     let a = start .args in
-    sym (same-six (a .table .now) (a .at) (a .key) (a .left) (a .right) (a .leader) (a .rank) (a .count) (start .pre) ∙ rw (eq-eqb (getD (a .table .now) (a .at) 0) (a .key) (c .before .before .before .before .before .before .before .before .before .if1 .left), eq-eqb (getD (a .table .now) (a .at + 1) 0) (a .left) (c .before .before .before .before .before .before .before .if2 .left), eq-eqb (getD (a .table .now) (a .at + 2) 0) (a .right) (c .before .before .before .before .before .if3 .left), eq-eqb (getD (a .table .now) (a .at + 3) 0) (a .leader) (c .before .before .before .if4 .left), eq-eqb (getD (a .table .now) (a .at + 4) 0) (a .rank) (c .before .if5 .left)))
+    sym (same-six (a .table .now) (a .at) (a .key) (a .left) (a .right) (a .leader) (a .rank) (a .count) (start .pre) ∙ rw (eq-eqb (getD (a .table .now) (a .at + keyField) 0) (a .key) (c .before .before .before .before .before .before .before .before .before .if1 .left), eq-eqb (getD (a .table .now) (a .at + leftField) 0) (a .left) (c .before .before .before .before .before .before .before .if2 .left), eq-eqb (getD (a .table .now) (a .at + rightField) 0) (a .right) (c .before .before .before .before .before .if3 .left), eq-eqb (getD (a .table .now) (a .at + leaderField) 0) (a .leader) (c .before .before .before .if4 .left), eq-eqb (getD (a .table .now) (a .at + rankField) 0) (a .rank) (c .before .if5 .left)))
 
 pub slot-is-spec : {M : Type 1} → statement M
 slot-is-spec =
     tie.close
     (tie.spec
+    add-if1
     mul-if1
     shared-slice-read-if1
     returns

@@ -8,14 +8,17 @@ use Rattle.encode.proofs.write_slot.Tie as tie
 use Rattle.encode.proofs.write_slot.Reads as reads
 use Rattle.encode.proofs.write_slot.Lts as lts
 
+add-table : tie.Need-add-table
+add-table c = search needs
+
 mul-table : tie.Need-mul-table
 mul-table c = search needs
 
 slice-write-table : tie.Need-slice-write-table
 slice-write-table c = search needs
 
-add-table : tie.Need-add-table
-add-table c = search needs
+add-table-2 : tie.Need-add-table-2
+add-table-2 c = search needs
 
 mul-table-2 : tie.Need-mul-table-2
 mul-table-2 c = search needs
@@ -23,8 +26,8 @@ mul-table-2 c = search needs
 slice-write-table-2 : tie.Need-slice-write-table-2
 slice-write-table-2 c = simp length-set (omega arith)
 
-add-table-2 : tie.Need-add-table-2
-add-table-2 c = search needs
+add-table-3 : tie.Need-add-table-3
+add-table-3 c = search needs
 
 mul-table-3 : tie.Need-mul-table-3
 mul-table-3 c = search needs
@@ -32,8 +35,8 @@ mul-table-3 c = search needs
 slice-write-table-3 : tie.Need-slice-write-table-3
 slice-write-table-3 c = simp length-set (omega arith)
 
-add-table-3 : tie.Need-add-table-3
-add-table-3 c = search needs
+add-table-4 : tie.Need-add-table-4
+add-table-4 c = search needs
 
 mul-table-4 : tie.Need-mul-table-4
 mul-table-4 c = search needs
@@ -41,8 +44,8 @@ mul-table-4 c = search needs
 slice-write-table-4 : tie.Need-slice-write-table-4
 slice-write-table-4 c = simp length-set (omega arith)
 
-add-table-4 : tie.Need-add-table-4
-add-table-4 c = search needs
+add-table-5 : tie.Need-add-table-5
+add-table-5 c = search needs
 
 mul-table-5 : tie.Need-mul-table-5
 mul-table-5 c = search needs
@@ -50,8 +53,8 @@ mul-table-5 c = search needs
 slice-write-table-5 : tie.Need-slice-write-table-5
 slice-write-table-5 c = simp length-set (omega arith)
 
-add-table-5 : tie.Need-add-table-5
-add-table-5 c = search needs
+add-table-6 : tie.Need-add-table-6
+add-table-6 c = search needs
 
 mul-table-6 : tie.Need-mul-table-6
 mul-table-6 c = search needs
@@ -69,21 +72,22 @@ pub write-slot-spec : {M : Type 1} → statement M
 write-slot-spec =
     tie.close
     (tie.spec
+    add-table
     mul-table
     slice-write-table
-    add-table
+    add-table-2
     mul-table-2
     slice-write-table-2
-    add-table-2
+    add-table-3
     mul-table-3
     slice-write-table-3
-    add-table-3
+    add-table-4
     mul-table-4
     slice-write-table-4
-    add-table-4
+    add-table-5
     mul-table-5
     slice-write-table-5
-    add-table-5
+    add-table-6
     mul-table-6
     slice-write-table-6
     same-length

@@ -89,8 +89,7 @@ write-requires c κs =
     let here = slots .ensures in
     let right = slots-for-some (length words) (λ e. some (here ∙ e)) in (
       can-be-written words order list (slots .result) here some (right-order p) (right-list q) (omega (arith, here, right .within)) (c .before .if4 .left),
-      omega (arith, here, right .long),
-      omega (arith, here, right .within),
+      (omega (arith, here, right .some), c .before .if4 .left, omega (arith, here, right .long), omega (arith, here, right .within)),
     )
 
 same-length : tie.Need-same-length

@@ -1,15 +1,15 @@
 -- `index::is_new_order` meets its contract. Assumes nothing.
-use Rattle.index.proofs.Tests.{order-low, order-above}
+use borrow.Author.Needs.{needs}
+use Rattle.table.specs.Contents.{tableOrder, newOrder}
 use Rattle.index.proofs.is_new_order.Statement.{statement}
 use Rattle.index.proofs.is_new_order.Tie as tie
-use Rattle.index.proofs.is_new_order.Reads as reads
-use Rattle.index.proofs.is_new_order.Lts as lts
+
+is-within-requires : tie.Need-is-within-requires
+is-within-requires c κs = search needs
 
 returns : tie.Need-returns
-returns c = order-low (c .before .args .order) (c .if1 .taken)
-
-returns-2 : tie.Need-returns-2
-returns-2 c = order-above (c .before .args .order) (c .if1 .left)
+unfolding newOrder tableOrder
+returns c = c .is-within .ensures
 
 pub is-new-order-spec : {M : Type 1} → statement M
-is-new-order-spec = tie.close (tie.spec returns returns-2)
+is-new-order-spec = tie.close (tie.spec is-within-requires returns)

@@ -6,14 +6,15 @@ use native.Mathlib.Omega.{arith}
 use lib.ListN.{length, getD, take}
 use lib.Seq.{length-take-le}
 use borrow.Author.Tests.{not-true, not-false}
-use Rattle.lists.specs.Lists.{risesB}
-use Rattle.lists.proofs.Tests.{true-or-false}
+use Rattle.lists.specs.Lists.{lies, risesB}
+use Rattle.lists.proofs.Tests.{true-or-false, lies-below, lies-above, lies-when}
+use Rattle.table.specs.Layout.{leastOrder, greatestOrder, orderWord}
 use Rattle.table.specs.Table.{contentsOf}
 use Rattle.table.specs.Sound.{soundWith}
 use Rattle.table.proofs.Soundness.{shown-fit}
 use Rattle.assemble.specs.Assemble.{Keys}
 use Rattle.assemble.proofs.Preparing.{room}
-use Rattle.judge.proofs.Verdicts.{order-low, order-high, keys-do-not-rise, decided, unsound, sound, keys-read, can-be-compared, compared}
+use Rattle.judge.proofs.Verdicts.{order-wrong, keys-do-not-rise, decided, unsound, sound, keys-read, can-be-compared, compared}
 use borrow.Author.Needs.{needs}
 use Rattle.judge.proofs.examine.Statement.{statement}
 use Rattle.judge.proofs.examine.Tie as tie
@@ -24,11 +25,8 @@ use Rattle.decode.proofs.rises.Reads as rises-reads
 use Rattle.judge.proofs.read_keys.Reads as read-keys-reads
 
 -- once the keys are read: the order is one that a table may have, and the list begins with the keys that the table shows
-low : (p : tie.After-read-keys) → 3 ≤ getD (p .before .before .before .before .before .before .before .before .before .before .before .before .before .before .before .before .before .before .before .args .table .now) 0 0
-low p = p .before .before .before .before .before .before .before .if1 .left
-
-high : (p : tie.After-read-keys) → getD (p .before .before .before .before .before .before .before .before .before .before .before .before .before .before .before .before .before .before .before .args .table .now) 0 0 ≤ 255
-high p = p .before .before .before .before .before .before .if2 .left
+right : (p : tie.After-read-keys) → lies leastOrder greatestOrder (getD (p .before .before .before .before .before .before .before .before .before .before .before .before .before .before .before .before .before .before .before .args .table .now) orderWord 0) ≡ true
+right p = lies-when leastOrder greatestOrder (getD (p .before .before .before .before .before .before .before .before .before .before .before .before .before .before .before .before .before .before .before .args .table .now) orderWord 0) (p .before .before .before .before .before .before .before .if1 .left) (p .before .before .before .before .before .before .if2 .left)
 
 read : (p : tie.After-read-keys) → take (p .read-keys .result) (p .read-keys .last .1 .1 .1 .1 .1 .1 .0) ≡ contentsOf (p .before .before .before .before .before .before .before .before .before .before .before .before .before .before .before .before .before .before .before .args .many) (p .before .before .before .before .before .before .before .before .before .before .before .before .before .before .before .before .before .before .before .args .table .now) .keys
 read p = keys-read (p .before .before .before .before .before .before .before .before .before .before .before .before .before .before .before .before .before .before .before .args .many) (p .before .before .before .before .before .before .before .before .before .before .before .before .before .before .before .before .before .before .before .args .table .now) (p .before .before .before .before .before .before .before .before .before .before .before .before .before .before .before .before .before .before .before .args .keys .now) (p .read-keys .last .1 .1 .1 .1 .1 .1 .0) (p .read-keys .result) (p .read-keys .ensures .1) (p .read-keys .ensures .0)
@@ -47,7 +45,7 @@ returns c =
     let start = c .before .before .before .before .before .before .before .before .before .before .before .before in
     let many = start .args .many in
     let words = start .args .table .now in
-    let e : soundWith many words ≡ false = order-low many words (c .if1 .taken) in
+    let e : soundWith many words ≡ false = order-wrong many words (lies-below leastOrder greatestOrder (getD words orderWord 0) (c .if1 .taken)) in
     (unsound many words e, λ t. absurd (true-or-false (soundWith many words) t e))
 
 returns-2 : tie.Need-returns-2
@@ -55,7 +53,7 @@ returns-2 c =
     let start = c .before .before .before .before .before .before .before .before .before .before .before .before .before in
     let many = start .args .many in
     let words = start .args .table .now in
-    let e : soundWith many words ≡ false = order-high many words (c .if2 .taken) in
+    let e : soundWith many words ≡ false = order-wrong many words (lies-above leastOrder greatestOrder (getD words orderWord 0) (c .if2 .taken)) in
     (unsound many words e, λ t. absurd (true-or-false (soundWith many words) t e))
 
 read-keys-requires : tie.Need-read-keys-requires
@@ -85,7 +83,7 @@ returns-3 c =
     let many = start .args .many in
     let words = start .args .table .now in
     let p = c .before .before .before .before .before .before .before .before .before .before .before .before .before in
-    let e : soundWith many words ≡ false = keys-do-not-rise many words (low p) (high p) (ap risesB (sym (read p)) ∙ sym (c .before .rises .ensures) ∙ not-true (c .before .rises .result) (c .if3 .taken)) in
+    let e : soundWith many words ≡ false = keys-do-not-rise many words (right p) (ap risesB (sym (read p)) ∙ sym (c .before .rises .ensures) ∙ not-true (c .before .rises .result) (c .if3 .taken)) in
     (unsound many words e, λ t. absurd (true-or-false (soundWith many words) t e))
 
 slice-reshare-prefix-compare : tie.Need-slice-reshare-prefix-compare
@@ -103,7 +101,7 @@ compare-requires c κs =
     let all-rise : risesB (contentsOf many words .keys) ≡ true = ap risesB (sym (read p)) ∙ sym (c .before .before .before .before .before .before .before .before .before .before .rises .ensures) ∙ not-false (c .before .before .before .before .before .before .before .before .before .before .rises .result) (c .before .before .before .before .before .before .before .before .before .if3 .left) in
     let n = length-take-le (p .read-keys .result) (p .read-keys .last .1 .1 .1 .1 .1 .1 .0) (fits p) in
     let at-most = few p in (
-      subst (Keys (getD words 0 0)) (sym (read p)) (can-be-compared many words (start .pre .0 .1) (low p) (high p) all-rise),
+      subst (Keys (getD words orderWord 0)) (sym (read p)) (can-be-compared many words (start .pre .0 .1) (right p) all-rise),
       (
         (omega (arith, n, start .pre .1 .0, c .before .before .before .before .before .before .before .before .before .before .before .before .before .before .before .before .before .before .before .weights .given), omega (arith, n, start .pre .1 .0, c .before .before .before .before .before .before .before .before .before .before .before .before .before .before .before .before .before .ranking .given)),
         (
@@ -151,8 +149,8 @@ returns-4 c =
     let p = c .before .before .before .before .before .before .before .before .before .before .before .before .before .before .before .before .before .before .before .before .before .before .before .before .before .before .before .before .before .before .before .before .before .before .before .before .before .before .before .before in
     let all-rise : risesB (contentsOf many words .keys) ≡ true = ap risesB (sym (read p)) ∙ sym (c .before .before .before .before .before .before .before .before .before .before .before .before .before .before .before .before .before .before .before .before .before .before .before .before .before .before .before .before .rises .ensures) ∙ not-false (c .before .before .before .before .before .before .before .before .before .before .before .before .before .before .before .before .before .before .before .before .before .before .before .before .before .before .before .before .rises .result) (c .before .before .before .before .before .before .before .before .before .before .before .before .before .before .before .before .before .before .before .before .before .before .before .before .before .before .before .if3 .left) in
     let e : soundWith many words ≡ true =
-    decided many words (low p) (high p) all-rise
-    ∙ sym (compared many words (getD words 0 0) (take (p .read-keys .result) (p .read-keys .last .1 .1 .1 .1 .1 .1 .0)) (length (start .args .slots .now)) refl (read p) (start .pre .0 .3))
+    decided many words (right p) all-rise
+    ∙ sym (compared many words (getD words orderWord 0) (take (p .read-keys .result) (p .read-keys .last .1 .1 .1 .1 .1 .1 .0)) (length (start .args .slots .now)) refl (read p) (start .pre .0 .3))
     ∙ sym (c .before .before .before .before .before .before .before .before .before .before .before .before .before .before .before .before .before .compare .ensures) ∙ c .if4 .taken
     in
     (sound many words (p .read-keys .result) e (p .read-keys .ensures .0), λ t. p .read-keys .ensures .1)
@@ -192,8 +190,8 @@ returns-5 c =
     let p = c .before .before .before .before .before .before .before .before .before .before .before .before .before .before .before .before .before .before .before .before .before .before .before .before .before .before .before .before .before .before .before .before .before .before .before .before .before .before .before .before in
     let all-rise : risesB (contentsOf many words .keys) ≡ true = ap risesB (sym (read p)) ∙ sym (c .before .before .before .before .before .before .before .before .before .before .before .before .before .before .before .before .before .before .before .before .before .before .before .before .before .before .before .before .rises .ensures) ∙ not-false (c .before .before .before .before .before .before .before .before .before .before .before .before .before .before .before .before .before .before .before .before .before .before .before .before .before .before .before .before .rises .result) (c .before .before .before .before .before .before .before .before .before .before .before .before .before .before .before .before .before .before .before .before .before .before .before .before .before .before .before .if3 .left) in
     let e : soundWith many words ≡ false =
-    decided many words (low p) (high p) all-rise
-    ∙ sym (compared many words (getD words 0 0) (take (p .read-keys .result) (p .read-keys .last .1 .1 .1 .1 .1 .1 .0)) (length (start .args .slots .now)) refl (read p) (start .pre .0 .3))
+    decided many words (right p) all-rise
+    ∙ sym (compared many words (getD words orderWord 0) (take (p .read-keys .result) (p .read-keys .last .1 .1 .1 .1 .1 .1 .0)) (length (start .args .slots .now)) refl (read p) (start .pre .0 .3))
     ∙ sym (c .before .before .before .before .before .before .before .before .before .before .before .before .before .before .before .before .before .compare .ensures) ∙ c .if4 .left
     in
     (unsound many words e, λ t. absurd (true-or-false (soundWith many words) t e))

@@ -4,11 +4,9 @@ use native.Mathlib.Omega.{arith}
 use lib.Dec.{ltb}
 use lib.ListN.{length, take}
 use Rattle.lists.specs.Lists.{overwrite, sortBy}
-use Rattle.lists.proofs.Sorted.{sorted-length}
 use Rattle.lists.proofs.Start.{starts-with, as-long}
-use Rattle.table.specs.Table.{contentsOf}
-use Rattle.decode.specs.Decode.{heldKeys}
-use Rattle.decode.proofs.Held.{held-most, contents-keys}
+use Rattle.table.specs.Table.{heldKeys, contentsOf}
+use Rattle.table.proofs.Soundness.{held-fit, shown-held, shown-length}
 use borrow.Author.Needs.{needs}
 use Rattle.judge.proofs.read_keys.Statement.{statement}
 use Rattle.judge.proofs.read_keys.Tie as tie
@@ -26,7 +24,7 @@ sort-keys-requires c κs =
     let words = start .args .table .now in
     let many = start .args .many in
     let collect = c .before .before .before .before .before .before .before .collect in
-    let few = held-most words many in
+    let few = held-fit many words in
     let found = collect .ensures .1 in
     let long = as-long (collect .last .1 .1 .0) (start .args .held .now) (heldKeys many words) (length (heldKeys many words)) (collect .ensures .0) refl (omega (arith, start .pre .1)) in
     omega (arith, start .pre .1)
@@ -53,10 +51,10 @@ returns c =
     let many = start .args .many in
     let collect = c .before .before .before .before .before .before .before .before .before .before .before .before .before .before .before .before .collect in
     let shown : contentsOf many words .keys ≡ sortBy ltb (take (collect .result) (collect .last .1 .1 .0)) =
-    contents-keys words many
+    shown-held many words
     ∙ ap (sortBy ltb) (sym (starts-with (collect .last .1 .1 .0) (start .args .held .now) (heldKeys many words) (collect .result) (collect .ensures .0) (sym (collect .ensures .1))))
     in (
-      collect .ensures .1 ∙ sym (ap length (contents-keys words many) ∙ sorted-length (heldKeys many words)),
+      collect .ensures .1 ∙ sym (shown-length many words),
       c .before .before .before .before .before .before .before .before .sort-keys .ensures ∙ ap (overwrite (start .args .keys .now) 0) (sym shown),
     )
 

@@ -4,7 +4,6 @@ use Prim.Native.Nat.{ℕ}
 use native.Mathlib.Omega.{arith}
 use lib.Seq.{length-take-le}
 use Rattle.table.specs.Table.{fresh}
-use Rattle.sized.proofs.Fitting.{writable-says}
 use borrow.Author.Needs.{needs}
 use Rattle.sized.proofs.write_within.Statement.{statement}
 use Rattle.sized.proofs.write_within.Tie as tie
@@ -18,17 +17,16 @@ slice-relend-prefix-write c = search needs
 slice-aggregate-write : tie.Need-slice-aggregate-write
 slice-aggregate-write c =
     let start = c .before .before .before .before .before .before .before .before .before .before .before .before .before .before .before .before .before .before in
-    sym (length-take-le (start .args .many) (start .args .slots .now) (start .pre .0 .2))
+    sym (length-take-le (start .args .many) (start .args .slots .now) (start .pre .1 .0 .3))
 
 write-requires : tie.Need-write-requires
 write-requires c κs =
     let start = c .before .before .before .before .before .before .before .before .before .before .before .before .before .before .before .before .before .before .before in
-    let w = writable-says (start .args .order) (start .args .many) (start .args .keys .now) (start .pre .0 .0) in
-    let fit = w .2 in
-    let part = length-take-le (start .args .many) (start .args .slots .now) (start .pre .0 .2) in
-    let first = start .pre .1 .0 in
-    let last = start .pre .1 .1 in (
-      w .0,
+    let fit = start .pre .1 .0 .1 in
+    let part = length-take-le (start .args .many) (start .args .slots .now) (start .pre .1 .0 .3) in
+    let first = start .pre .1 .1 .0 in
+    let last = start .pre .1 .1 .1 in (
+      start .pre .0,
       (
         (omega (arith, fit, first .0), omega (arith, fit, first .1)),
         (
@@ -36,8 +34,8 @@ write-requires c κs =
           (
             (omega (arith, fit, last .0), omega (arith, fit, last .1), omega (arith, fit, last .2)),
             (
-              (omega (arith, part, w .1), omega (arith, part, fit)),
-              omega (arith, part, start .pre .0 .1),
+              (omega (arith, part, start .pre .1 .0 .0), omega (arith, part, fit)),
+              omega (arith, part, start .pre .1 .0 .2),
             ),
           ),
         ),
@@ -76,7 +74,7 @@ returns c =
     let start = c .before .before .before .before .before .before .before .before .before .before .before .before .before .before .before .before .before .before .before .before .before .before .before .before .before .before .before .before .before .before .before .before .before .before .before .before .before .before in
     c .before .before .before .before .before .before .before .before .before .before .before .before .before .before .before .before .before .before .write .ensures
     ∙ ap (λ (n : ℕ). fresh n (record { order = start .args .order; keys = start .args .keys .now }))
-    (length-take-le (start .args .many) (start .args .slots .now) (start .pre .0 .2))
+    (length-take-le (start .args .many) (start .args .slots .now) (start .pre .1 .0 .3))
 
 pub write-within-spec : {M : Type 1} → statement M
 write-within-spec =

@@ -1,2 +1,0 @@
--- Laws of what can be written.
-pub mod Fitting

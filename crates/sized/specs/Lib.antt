@@ -1,2 +1,0 @@
--- The definitions that the contracts of `sized` cite.
-pub mod Sized
