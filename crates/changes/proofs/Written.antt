@@ -12,6 +12,7 @@ use Rattle.table.specs.Table.{fresh, contentsOf}
 use Rattle.table.specs.Sound.{soundWith}
 use Rattle.table.proofs.Reading.{contents-of-fresh}
 use Rattle.table.proofs.Soundness.{fresh-passes}
+use Rattle.assemble.specs.Assemble.{Keys}
 use Rattle.calls.specs.Calls.{rankIn}
 
 module _ (many : ℕ) (c : Contents) (some : 1 ≤ many) (valid : Valid many c) (words : List ℕ) (written : words ≡ fresh many c) where
@@ -26,6 +27,11 @@ pub written-with : (many : ℕ) (words keys after keys′ : List ℕ) → after 
     → after ≡ fresh many (record { order = contentsOf many words .order; keys = keys′ })
 unfolding contentsOf
 written-with many words keys after keys′ e f = e ∙ ap (λ (ks : List ℕ). fresh many (record { order = getD words orderWord 0; keys = ks })) f
+
+-- and can be
+pub writable-with : (many : ℕ) (words keys keys′ : List ℕ) → Keys (contentsOf many words .order) keys′ → keys ≡ keys′ → Keys (getD words orderWord 0) keys
+unfolding contentsOf
+writable-with many words keys keys′ can e = subst (Keys (getD words orderWord 0)) (sym e) can
 
 -- a rank read where the table shows this
 pub ranked : (n : ℕ) (shown c : Contents) (key : ℕ) → n ≡ rank (shown .order) priorityOf (shown .keys) key → shown ≡ c → n ≡ rankIn c key

@@ -7,9 +7,8 @@ use mathlib.Core.Path.{_≡_, refl, sym, ap, _∙_, subst}
 use Prim.Native.Nat.{ℕ, suc, _+_, _<_, _≤_}
 use native.Mathlib.Omega.{arith}
 use lib.ListN.{length}
-use borrow.Author.Tests.{leb-true}
 use Rattle.lists.specs.Lists.{member, distinct, All, Rising}
-use Rattle.lists.proofs.Tests.{and-left}
+use Rattle.lists.proofs.Tests.{lies-says}
 use Rattle.lists.proofs.Keep.{all-map}
 use Rattle.lists.proofs.Membership.{all-member}
 use Rattle.lists.proofs.Pairwise.{pairwise-mapped}
@@ -22,6 +21,7 @@ use Rattle.structure.proofs.Shape.{size, length-keys, top-member, treap-keys, t
 use Rattle.structure.proofs.Subtrees.{inside, good-subtree}
 use Rattle.structure.proofs.Blocks.{top-is-root, blockLevel, level-of-root}
 use Rattle.structure.proofs.SearchPath.{path-levels-fall, blocks-met-is}
+use Rattle.table.specs.Layout.{leastOrder, greatestOrder}
 use Rattle.table.specs.Contents.{Contents, tableOrder, IsKey, Valid}
 use Rattle.lookup.specs.Lookup.{standingOf, lookedUp}
 use Rattle.lookup.specs.Steps.{nextKey}
@@ -60,7 +60,7 @@ module _ (many : ℕ) (c : Contents) (valid : Valid many c) where
 
   wide : 2 ≤ c .order
   unfolding tableOrder
-  wide = omega (arith, leb-true 3 (c .order) (and-left _ _ (valid .order-right)))
+  wide = omega (arith, lies-says leastOrder greatestOrder (c .order) (valid .order-right) .0)
 
   rising : Rising ks
   rising = valid .keys-rise

@@ -9,13 +9,14 @@ use native.Mathlib.Omega.{arith}
 use lib.Dec.{eqb, ltb}
 use borrow.Author.Tests.{eq-eqb, ne-eqb, lt-ltb, le-ltb, eqb-true, eqb-false, ltb-true, ltb-false}
 use Rattle.lists.specs.Lists.{All, Pairwise, consIf, first, keep, insertBy, sortBy, upFrom, lies, nonzero}
-use Rattle.lists.proofs.Tests.{by-test, or-true-left, or-true-right, nonzero-says}
-use Rattle.lists.proofs.Keep.{keep-append, all-map, kept-pass}
+use Rattle.lists.proofs.Tests.{by-test, or-true-left, or-true-right}
+use Rattle.lists.proofs.Keep.{keep-append}
 use Rattle.lists.proofs.Membership.{first-found}
-use Rattle.lists.proofs.Sorted.{sorted-all, sorted-ordered, sorted-more}
+use Rattle.lists.proofs.Sorted.{sorted-ordered, sorted-more}
 use Rattle.lists.proofs.UpFrom.{upFrom-end}
 use Rattle.table.specs.Layout.{keyIn, slotKeys}
 use Rattle.table.specs.Table.{heldKeys, contentsOf}
+use Rattle.table.proofs.Soundness.{shown-nonzero}
 use Rattle.seek.specs.Seek.{leastWithin, lesser}
 
 -- ---- a key put in its place among others
@@ -77,12 +78,6 @@ module _ (words : List ℕ) (slot : ℕ) where
   unfolding contentsOf heldKeys
   shown-sorted = sorted-ordered (keep nonzero (slotKeys slot words))
 
-  shown-some : All (λ k. 1 ≤ k) (contentsOf slot words .keys)
-  unfolding contentsOf heldKeys
-  shown-some =
-      sorted-all (λ k. 1 ≤ k) (keep nonzero (slotKeys slot words))
-      (all-map (λ k. nonzero k ≡ true) (λ k. 1 ≤ k) nonzero-says (keep nonzero (slotKeys slot words)) (kept-pass nonzero (slotKeys slot words)))
-
   -- the least key of a slot more
   pub least-more : (low high : ℕ) → leastWithin low high (contentsOf (suc slot) words .keys) ≡ lesser low high (leastWithin low high (contentsOf slot words .keys)) (keyIn words slot)
   unfolding leastWithin lesser choose
@@ -92,7 +87,7 @@ module _ (words : List ℕ) (slot : ℕ) where
       (λ e.
       rw e
       (ap (first 0 (lies low high)) (shown-more (eqb-false (keyIn words slot) 0 e))
-      ∙ first-put (lies low high) (keyIn words slot) (contentsOf slot words .keys) shown-sorted shown-some))
+      ∙ first-put (lies low high) (keyIn words slot) (contentsOf slot words .keys) shown-sorted (shown-nonzero slot words)))
 
 pub least-none : (words : List ℕ) (low high : ℕ) → 0 ≡ leastWithin low high (contentsOf 0 words .keys)
 unfolding leastWithin contentsOf heldKeys slotKeys

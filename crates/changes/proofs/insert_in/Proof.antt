@@ -12,12 +12,11 @@ use Rattle.table.specs.Contents.{Contents, Valid}
 use Rattle.table.specs.Table.{fresh, contentsOf}
 use Rattle.table.proofs.Words.{fresh-length}
 use Rattle.table.proofs.Soundness.{WordSized, sound-valid}
-use Rattle.assemble.specs.Assemble.{Keys}
 use Rattle.judge.proofs.Verdicts.{told-false}
 use Rattle.edit.specs.Edit.{joined}
 use Rattle.calls.proofs.Examined.{Examined, examined}
 use Rattle.changes.proofs.Sets.{joined-length, joined-member, joined-valid, valid-keys}
-use Rattle.changes.proofs.Written.{sound-again, shows, ranked, written-with}
+use Rattle.changes.proofs.Written.{sound-again, shows, ranked, written-with, writable-with}
 use Rattle.changes.proofs.Inserting.{withKey, put-taken, refused-table, refused-held, refused-full, accepted}
 use borrow.Author.Needs.{needs}
 use Rattle.changes.proofs.insert_in.Statement.{statement}
@@ -207,7 +206,8 @@ write-requires c κs =
     let p = free-at (put-at q) in
     let start = begun (judged-at p) in
     let right = goal-valid (put-at q) in (
-      subst (Keys (goal p .order)) (sym (taken q)) (valid-keys (many p) (goal p) (start .pre .1) right),
+      writable-with (many p) (words (judged-at p)) (take (size p + 1) (q .put-in .last .0)) (goal p .keys)
+          (valid-keys (many p) (goal p) (start .pre .1) right) (taken q),
       (start .pre .0, subst (λ (ks : List ℕ). length ks ≤ many p) (sym (taken q)) (right .keys-fit), start .pre .2, start .pre .1),
     )
 
