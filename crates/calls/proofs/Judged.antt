@@ -7,6 +7,7 @@ use native.Mathlib.Omega.{arith}
 use lib.Dec.{eqb}
 use lib.ListN.{length}
 use borrow.Author.Tests.{ne-eqb}
+use Rattle.lists.specs.Lists.{member}
 use Rattle.table.specs.Layout.{mostSlots, tableWords}
 use Rattle.table.specs.Contents.{Contents}
 use Rattle.table.specs.Table.{contentsOf}
@@ -29,3 +30,6 @@ module _ (words : List ℕ) (many : ℕ) (some : 0 < many) (most : many ≤ most
   pub shown-is : shown words ≡ contentsOf many words
   unfolding shown
   shown-is = ap (λ (n : ℕ). contentsOf n words) slots-here
+
+  pub member-shown : (key : ℕ) (b : Bool) → member key (contentsOf many words .keys) ≡ b → member key (shown words .keys) ≡ b
+  member-shown key b e = ap (λ (c : Contents). member key (c .keys)) shown-is ∙ e

@@ -1,5 +1,5 @@
 -- What the tests of an insert say of its reply and of the table after it. Assumes nothing.
-use mathlib.Core.Bool.{Bool, true, false}
+use mathlib.Core.Bool.{true, false}
 use mathlib.Core.List.{List, [], _∷_}
 use mathlib.Core.Logic.{_≢_}
 use mathlib.Core.Path.{_≡_, refl, sym, ap, _∙_}
@@ -22,7 +22,7 @@ use Rattle.replies.specs.declared.Inserted.{Inserted}
 use Rattle.replies.specs.declared.Inserted.the-variants.{Rank, Refused}
 use Rattle.calls.specs.Reasons.{wrongLength, zeroKey, notSound, keyHeld, tooManyKeys, shown}
 use Rattle.calls.specs.Calls.{rankIn, rewritten, grown, insertRefusal, insertReply, insertAfter}
-use Rattle.calls.proofs.Judged.{slots-here, right-length, judged, shown-is}
+use Rattle.calls.proofs.Judged.{slots-here, right-length, judged, shown-is, member-shown}
 use Rattle.changes.proofs.Sets.{joined-length}
 
 -- What a table of so many slots shows, with a key more.
@@ -59,14 +59,11 @@ module _ (words : List ℕ) (key : ℕ) where
         (rw (slots-right, not-zero, unsound), rw (slots-right, not-zero, unsound))
 
     module _ (sound : soundWith many words ≡ true) where
-      right : (b : Bool) → member key (contentsOf many words .keys) ≡ b → member key (shown words .keys) ≡ b
-      right b e = ap (λ (c : Contents). member key (c .keys)) (shown-is words many some most long) ∙ e
-
       pub refused-held : member key (contentsOf many words .keys) ≡ true → Meets (Refused KeyHeld) words
       unfolding insertReply insertAfter insertRefusal wrongLength zeroKey notSound keyHeld
       refused-held e =
           let is-sound = judged words many some most long true sound in
-          let held = right true e in
+          let held = member-shown words many some most long key true e in
           (rw (slots-right, not-zero, is-sound, held), rw (slots-right, not-zero, is-sound, held))
 
       module _ (absent : member key (contentsOf many words .keys) ≡ false) where
@@ -81,7 +78,7 @@ module _ (words : List ℕ) (key : ℕ) where
         unfolding insertReply insertAfter insertRefusal wrongLength zeroKey notSound keyHeld tooManyKeys
         refused-full e =
             let is-sound = judged words many some most long true sound in
-            let not-held = right false absent in
+            let not-held = member-shown words many some most long key false absent in
             let full = lt-ltb (slotsFor (length words)) (length (grown words key .keys)) (omega (arith, size, slots-here words many some most long)) in
             (rw (slots-right, not-zero, is-sound, not-held, full), rw (slots-right, not-zero, is-sound, not-held, full))
 
@@ -90,7 +87,7 @@ module _ (words : List ℕ) (key : ℕ) where
         unfolding insertReply insertAfter insertRefusal wrongLength zeroKey notSound keyHeld tooManyKeys rewritten
         accepted room n e after q =
             let is-sound = judged words many some most long true sound in
-            let not-held = right false absent in
+            let not-held = member-shown words many some most long key false absent in
             let here = slots-here words many some most long in
             let fits = le-ltb (slotsFor (length words)) (length (grown words key .keys)) (omega (arith, size, here)) in (
               rw (slots-right, not-zero, is-sound, not-held, fits, grown-is, e),

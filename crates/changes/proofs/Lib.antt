@@ -2,3 +2,4 @@
 pub mod Sets
 pub mod Written
 pub mod Inserting
+pub mod Deleting

@@ -3,9 +3,10 @@ ghost use mathlib.Core.Path.{_≡_};
 ghost use Prim.Native.Nat.{_<_, _≤_};
 ghost use lib.ListN.{length};
 ghost use Rattle.table.specs.Layout.{mostSlots, tableWords};
-ghost use Rattle.replies.specs.Replies.{insertedOf};
-ghost use Rattle.calls.specs.Calls.{insertReply, insertAfter};
+ghost use Rattle.replies.specs.Replies.{insertedOf, deletedOf};
+ghost use Rattle.calls.specs.Calls.{insertReply, insertAfter, deleteReply, deleteAfter};
 use judge::Verdict;
+use replies::Deleted;
 use replies::Inserted;
 use replies::Refusal;
 use table::ORDER_WORD;
@@ -30,4 +31,88 @@ fn insert_in(table: &mut [u64], many: usize, key: u64, keys: &mut [u64]) -> Inse
     edit::put_in(keys, n, key);
     sized::write(order, &keys[..n + 1], many, table);
     Inserted::Rank(lookup::rank_of(table, many, key))
+}
+
+// Insert a key into a table of up to 512 slots.
+fn insert_few(table: &mut [u64], many: usize, key: u64) -> Inserted
+    requires { ⌜ (0 < many) × (many ≤ 512) × (length (now table) ≡ tableWords many) × (1 ≤ key) ⌝ }
+    ensures { λ r. ⌜ insertedOf r ≡ insertReply (now (table .entry)) key ⌝ }
+    ensures { λ _. ⌜ now (table .exit) ≡ insertAfter (now (table .entry)) key ⌝ }
+{
+    let mut keys = [0u64; 512];
+    insert_in(table, many, key, &mut keys)
+}
+
+// Insert a key into a table of up to 4,096 slots.
+fn insert_many(table: &mut [u64], many: usize, key: u64) -> Inserted
+    requires { ⌜ (0 < many) × (many ≤ 4096) × (length (now table) ≡ tableWords many) × (1 ≤ key) ⌝ }
+    ensures { λ r. ⌜ insertedOf r ≡ insertReply (now (table .entry)) key ⌝ }
+    ensures { λ _. ⌜ now (table .exit) ≡ insertAfter (now (table .entry)) key ⌝ }
+{
+    let mut keys = [0u64; 4096];
+    insert_in(table, many, key, &mut keys)
+}
+
+// Insert a key into a table of `many` slots, the key not zero. Internal to this library's crates.
+pub fn insert(table: &mut [u64], many: usize, key: u64) -> Inserted
+    requires { ⌜ (0 < many) × (many ≤ mostSlots) × (length (now table) ≡ tableWords many) × (1 ≤ key) ⌝ }
+    ensures { λ r. ⌜ insertedOf r ≡ insertReply (now (table .entry)) key ⌝ }
+    ensures { λ _. ⌜ now (table .exit) ≡ insertAfter (now (table .entry)) key ⌝ }
+{
+    if many <= 512 {
+        return insert_few(table, many, key);
+    }
+    insert_many(table, many, key)
+}
+
+// Delete a key from a table of `many` slots, with `keys` to work in.
+fn delete_in(table: &mut [u64], many: usize, key: u64, keys: &mut [u64]) -> Deleted
+    requires { ⌜ (0 < many) × (many ≤ mostSlots) × (length (now table) ≡ tableWords many) × (1 ≤ key) × (many ≤ length (now keys)) ⌝ }
+    ensures { λ r. ⌜ deletedOf r ≡ deleteReply (now (table .entry)) key ⌝ }
+    ensures { λ _. ⌜ now (table .exit) ≡ deleteAfter (now (table .entry)) key ⌝ }
+{
+    let order = table[ORDER_WORD];
+    let found = judge::examine_sized(table, many, keys);
+    let Verdict::Sound(n) = found else {
+        return Deleted::Refused(Refusal::NotSound);
+    };
+    if !lookup::holds(table, many, key) {
+        return Deleted::Refused(Refusal::KeyAbsent);
+    }
+    let rank = lookup::rank_of(table, many, key);
+    let left = edit::take_out(keys, n, key);
+    sized::write(order, &keys[..left], many, table);
+    Deleted::Rank(rank)
+}
+
+// Delete a key from a table of up to 512 slots.
+fn delete_few(table: &mut [u64], many: usize, key: u64) -> Deleted
+    requires { ⌜ (0 < many) × (many ≤ 512) × (length (now table) ≡ tableWords many) × (1 ≤ key) ⌝ }
+    ensures { λ r. ⌜ deletedOf r ≡ deleteReply (now (table .entry)) key ⌝ }
+    ensures { λ _. ⌜ now (table .exit) ≡ deleteAfter (now (table .entry)) key ⌝ }
+{
+    let mut keys = [0u64; 512];
+    delete_in(table, many, key, &mut keys)
+}
+
+// Delete a key from a table of up to 4,096 slots.
+fn delete_many(table: &mut [u64], many: usize, key: u64) -> Deleted
+    requires { ⌜ (0 < many) × (many ≤ 4096) × (length (now table) ≡ tableWords many) × (1 ≤ key) ⌝ }
+    ensures { λ r. ⌜ deletedOf r ≡ deleteReply (now (table .entry)) key ⌝ }
+    ensures { λ _. ⌜ now (table .exit) ≡ deleteAfter (now (table .entry)) key ⌝ }
+{
+    let mut keys = [0u64; 4096];
+    delete_in(table, many, key, &mut keys)
+}
+
+// Delete a key from a table of `many` slots, the key not zero. Internal to this library's crates.
+pub fn delete(table: &mut [u64], many: usize, key: u64) -> Deleted
+    requires { ⌜ (0 < many) × (many ≤ mostSlots) × (length (now table) ≡ tableWords many) × (1 ≤ key) ⌝ }
+    ensures { λ r. ⌜ deletedOf r ≡ deleteReply (now (table .entry)) key ⌝ }
+    ensures { λ _. ⌜ now (table .exit) ≡ deleteAfter (now (table .entry)) key ⌝ }
+{
+    if many <= 512 {
+        return delete_few(table, many, key);
+    }
+    delete_many(table, many, key)
 }
