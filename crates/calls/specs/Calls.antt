@@ -1,10 +1,12 @@
 -- What each call replies and leaves behind, from what it is handed. Assumes nothing.
-use mathlib.Core.List.{List, [], _∷_}
+use mathlib.Core.Bool.{cond}
+use mathlib.Core.List.{List, [], _∷_, _++_}
 use Prim.Native.Nat.{ℕ}
 use lib.ListN.{length}
-use Rattle.lists.specs.Lists.{overwrite}
+use Rattle.lists.specs.Lists.{member, overwrite}
 use Rattle.priority.specs.Priority.{priorityOf}
-use Rattle.treap.specs.Levels.{rank}
+use Rattle.treap.specs.Levels.{rank, count, leader}
+use Rattle.treap.specs.Blocks.{blocksMet}
 use Rattle.table.specs.Contents.{Contents}
 use Rattle.table.specs.Table.{fresh}
 use Rattle.edit.specs.Edit.{joined, without}
@@ -86,6 +88,28 @@ deleteReply words key =
 
 unfoldable pub deleteAfter : List ℕ → ℕ → List ℕ
 deleteAfter words key = unlessRefused (deleteRefusal words key) (rewritten words (shrunk words key)) words
+
+-- "Lookup 1, 3, 7."
+unfoldable pub lookupRefusal : List ℕ → ℕ → ℕ
+lookupRefusal words key = lowest (wrongLength words ∷ zeroKey key ∷ notSound words ∷ [])
+
+-- "Lookup gives held or absent, and rank, count and leader (zeros when absent)": one for held, zero for absent, and these.
+unfoldable pub standingIn : Contents → ℕ → List ℕ
+standingIn c key =
+    cond (member key (c .keys))
+    (1 ∷ rankIn c key ∷ count (c .order) priorityOf (c .keys) key ∷ leader (c .order) priorityOf (c .keys) key ∷ [])
+    (0 ∷ 0 ∷ 0 ∷ 0 ∷ [])
+
+-- "It also gives the number of different blocks that hold the keys it compares on its way down."
+unfoldable pub lookupReply : List ℕ → ℕ → Reply
+lookupReply words key =
+    record {
+      refusal = lookupRefusal words key;
+      numbers =
+          unlessRefused (lookupRefusal words key)
+          (standingIn (shown words) key ++ (blocksMet (shown words .order) priorityOf (shown words .keys) key ∷ []))
+          (0 ∷ 0 ∷ 0 ∷ 0 ∷ 0 ∷ []);
+    }
 
 -- "Range 1, 4, 7, 11."
 unfoldable pub rangeRefusal : List ℕ → ℕ → ℕ → List ℕ → ℕ

@@ -3,4 +3,5 @@ pub mod Blank
 pub mod Tests
 pub mod SettingUp
 pub mod Building
+pub mod LookingUp
 pub mod Ranging

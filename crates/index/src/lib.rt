@@ -4,11 +4,15 @@ ghost use Prim.Native.Nat.{_<_, _≤_};
 ghost use lib.ListN.{length};
 ghost use Rattle.table.specs.Layout.{mostSlots, tableWords};
 ghost use Rattle.table.specs.Contents.{newOrder};
-ghost use Rattle.replies.specs.Replies.{setUpOf, builtOf, rangedOf};
+ghost use Rattle.replies.specs.Replies.{setUpOf, builtOf, insertedOf, deletedOf, lookedUpOf, rangedOf};
 ghost use Rattle.calls.specs.Reasons.{risingKeys};
-ghost use Rattle.calls.specs.Calls.{setUpReply, setUpAfter, buildReply, buildAfter, rangeReply, rangeOutput};
+ghost use Rattle.calls.specs.Calls.{setUpReply, setUpAfter, buildReply, buildAfter, insertReply, insertAfter, deleteReply, deleteAfter, lookupReply, rangeReply, rangeOutput};
 use judge::Verdict;
+use lookup::Looked;
 use replies::Built;
+use replies::Deleted;
+use replies::Inserted;
+use replies::LookedUp;
 use replies::Ranged;
 use replies::Refusal;
 use replies::SetUp;
@@ -73,6 +77,57 @@ pub fn build(table: &mut [u64], order: u64, list: &[u64]) -> Built
     }
     sized::write(order, list, many, table);
     Built::Done
+}
+
+// Insert a key; the rank that it then has. Refusals: 1, 3, 7, 8, 10.
+pub fn insert(table: &mut [u64], key: u64) -> Inserted
+    ensures { λ r. ⌜ insertedOf r ≡ insertReply (now (table .entry)) key ⌝ }
+    ensures { λ _. ⌜ now (table .exit) ≡ insertAfter (now (table .entry)) key ⌝ }
+{
+    let many = judge::slots_for(table.len());
+    if many == 0 {
+        return Inserted::Refused(Refusal::WrongLength);
+    }
+    if key == 0 {
+        return Inserted::Refused(Refusal::ZeroKey);
+    }
+    changes::insert(table, many, key)
+}
+
+// Delete a key; the rank that it had. Refusals: 1, 3, 7, 9.
+pub fn delete(table: &mut [u64], key: u64) -> Deleted
+    ensures { λ r. ⌜ deletedOf r ≡ deleteReply (now (table .entry)) key ⌝ }
+    ensures { λ _. ⌜ now (table .exit) ≡ deleteAfter (now (table .entry)) key ⌝ }
+{
+    let many = judge::slots_for(table.len());
+    if many == 0 {
+        return Deleted::Refused(Refusal::WrongLength);
+    }
+    if key == 0 {
+        return Deleted::Refused(Refusal::ZeroKey);
+    }
+    changes::delete(table, many, key)
+}
+
+// Look a key up: whether it is held, where it stands, and how many blocks hold the keys compared. Refusals: 1, 3, 7.
+pub fn look_up(table: &[u64], key: u64) -> LookedUp
+    ensures { λ r. ⌜ lookedUpOf r ≡ lookupReply (now (table .entry)) key ⌝ }
+{
+    let many = judge::slots_for(table.len());
+    if many == 0 {
+        return LookedUp::Refused(Refusal::WrongLength);
+    }
+    if key == 0 {
+        return LookedUp::Refused(Refusal::ZeroKey);
+    }
+    if !judge::judge(table) {
+        return LookedUp::Refused(Refusal::NotSound);
+    }
+    let looked = lookup::look_up(table, many, key);
+    match looked {
+        Looked::Held(standing, blocks) => LookedUp::Held(standing, blocks),
+        Looked::Absent(blocks) => LookedUp::Absent(blocks),
+    }
 }
 
 // The range of a table of `many` slots, with `keys` to work in.

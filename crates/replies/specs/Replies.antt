@@ -12,6 +12,8 @@ use Rattle.replies.specs.declared.Inserted.{Inserted}
 use Rattle.replies.specs.declared.Inserted.the-variants as inserted
 use Rattle.replies.specs.declared.Deleted.{Deleted}
 use Rattle.replies.specs.declared.Deleted.the-variants as deleted
+use Rattle.replies.specs.declared.LookedUp.{LookedUp}
+use Rattle.replies.specs.declared.LookedUp.the-variants as looked-up
 use Rattle.replies.specs.declared.Ranged.{Ranged}
 use Rattle.replies.specs.declared.Ranged.the-variants as ranged
 use Rattle.replies.specs.declared.Stepped.{Stepped}
@@ -63,6 +65,13 @@ insertedOf (inserted.Refused r) = record { refusal = numberOf r; numbers = 0 ∷
 abbrev pub deletedOf : Deleted → Reply
 deletedOf (deleted.Rank n) = record { refusal = 0; numbers = n ∷ [] }
 deletedOf (deleted.Refused r) = record { refusal = numberOf r; numbers = 0 ∷ [] }
+
+-- "Lookup gives held or absent, and rank, count and leader (zeros when absent). It also gives the number of different blocks":
+-- one for held, zero for absent, then the four numbers.
+abbrev pub lookedUpOf : LookedUp → Reply
+lookedUpOf (looked-up.Held s blocks) = record { refusal = 0; numbers = 1 ∷ s .rank ∷ s .count ∷ s .leader ∷ blocks ∷ [] }
+lookedUpOf (looked-up.Absent blocks) = record { refusal = 0; numbers = 0 ∷ 0 ∷ 0 ∷ 0 ∷ blocks ∷ [] }
+lookedUpOf (looked-up.Refused r) = record { refusal = numberOf r; numbers = 0 ∷ 0 ∷ 0 ∷ 0 ∷ 0 ∷ [] }
 
 -- "The held keys .. and their number".
 abbrev pub rangedOf : Ranged → Reply

@@ -1,4 +1,5 @@
 // What the calls answer.
+use lookup::Standing;
 
 // Why a call was turned down.
 pub enum Refusal {
@@ -47,6 +48,13 @@ pub enum Inserted {
 // The answer of a delete: the rank that the key had.
 pub enum Deleted {
     Rank(u64),
+    Refused(Refusal),
+}
+
+// The answer of a lookup: where a held key stands, and how many blocks hold the keys that were compared.
+pub enum LookedUp {
+    Held(Standing, usize),
+    Absent(usize),
     Refused(Refusal),
 }
 

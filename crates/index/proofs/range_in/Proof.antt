@@ -1,15 +1,12 @@
 -- `index::range_in` meets its contract. Assumes nothing.
-use mathlib.Core.Bool.{true}
-use mathlib.Core.Path.{_≡_, refl, sym, ap, _∙_}
-use Prim.Native.Nat.{_≤_}
+use mathlib.Core.List.{List}
+use mathlib.Core.Path.{_≡_, sym, ap, _∙_}
+use Prim.Native.Nat.{ℕ, _≤_}
 use native.Mathlib.Omega.{arith}
 use lib.ListN.{length, take}
-use Rattle.lists.proofs.Start.{starts-with, as-long}
-use Rattle.table.specs.Table.{contentsOf}
-use Rattle.table.specs.Sound.{soundWith}
-use Rattle.table.proofs.Soundness.{shown-fit}
-use Rattle.judge.proofs.Verdicts.{told-true, told-false, told-size}
+use Rattle.judge.proofs.Verdicts.{told-false}
 use Rattle.ranges.specs.Ranges.{within}
+use Rattle.calls.proofs.Examined.{Examined, examined}
 use Rattle.index.proofs.Ranging.{refused-table, refused-short, accepted}
 use borrow.Author.Needs.{needs}
 use Rattle.index.proofs.range_in.Statement.{statement}
@@ -20,34 +17,28 @@ use Rattle.judge.proofs.examine_sized.Reads as examine-sized-reads
 use Rattle.ranges.proofs.copy_within.Reads as copy-within-reads
 use Rattle.ranges.proofs.count_within.Reads as count-within-reads
 
--- where the table is sound, its keys are at the start of the list
-is-sound : (p : tie.After-found) → soundWith (p .before .before .before .before .before .before .before .before .before .args .many) (p .before .before .before .before .before .before .before .before .before .args .table .now) ≡ true
-is-sound p =
-    let start = p .before .before .before .before .before .before .before .before .before in
-    told-true (start .args .many) (start .args .table .now) (p .found .given .0 .0) (sym (p .before .before .before .before .examine-sized .ensures .0) ∙ p .found .given .1)
+-- ---- where the table is sound
+abbrev judged-at : tie.After-found → tie.After-examine-sized
+judged-at p = p .before .before .before .before
 
-size : (p : tie.After-found) → p .found .given .0 .0 ≡ length (contentsOf (p .before .before .before .before .before .before .before .before .before .args .many) (p .before .before .before .before .before .before .before .before .before .args .table .now) .keys)
-size p =
-    let start = p .before .before .before .before .before .before .before .before .before in
-    told-size (start .args .many) (start .args .table .now) (p .found .given .0 .0) (sym (p .before .before .before .before .examine-sized .ensures .0) ∙ p .found .given .1)
+abbrev begun : tie.After-examine-sized → tie.Start
+begun p = p .before .before .before .before .before
 
-taken : (p : tie.After-found) → take (p .found .given .0 .0) (p .before .before .before .before .examine-sized .last .1 .1 .0) ≡ contentsOf (p .before .before .before .before .before .before .before .before .before .args .many) (p .before .before .before .before .before .before .before .before .before .args .table .now) .keys
-taken p =
-    let start = p .before .before .before .before .before .before .before .before .before in
-    let n = p .found .given .0 .0 in
-    starts-with (p .before .before .before .before .examine-sized .last .1 .1 .0) (start .args .keys .now) (contentsOf (start .args .many) (start .args .table .now) .keys) n
-    (p .before .before .before .before .examine-sized .ensures .1 (is-sound p)) (sym (size p))
+abbrev size : tie.After-found → ℕ
+size p = p .found .given .0 .0
 
-fits : (p : tie.After-found) → p .found .given .0 .0 ≤ length (p .before .before .before .before .examine-sized .last .1 .1 .0)
-fits p =
-    let start = p .before .before .before .before .before .before .before .before .before in
-    let keys = contentsOf (start .args .many) (start .args .table .now) .keys in
-    let few = shown-fit (start .args .many) (start .args .table .now) in
-    let long =
-    as-long (p .before .before .before .before .examine-sized .last .1 .1 .0) (start .args .keys .now) keys (length keys)
-    (p .before .before .before .before .examine-sized .ensures .1 (is-sound p)) refl (omega (arith, few, start .pre .4))
-    in
-    omega (arith, few, long, size p, start .pre .4)
+abbrev listed : tie.After-found → List ℕ
+listed p = judged-at p .examine-sized .last .1 .1 .0
+
+found : (p : tie.After-found) → Examined (begun (judged-at p) .args .many) (begun (judged-at p) .args .table .now) (begun (judged-at p) .args .keys .now) (listed p) (size p)
+found p =
+    let q = judged-at p in
+    let start = begun q in
+    examined (start .args .many) (start .args .table .now) (start .args .keys .now) (listed p) (size p) (q .examine-sized .result) (q .examine-sized .ensures .0)
+    (p .found .given .1) (q .examine-sized .ensures .1) (start .pre .4)
+
+fits : (p : tie.After-found) → size p ≤ length (listed p)
+fits p = omega (arith, found p .most, found p .long, begun (judged-at p) .pre .4)
 
 examine-sized-requires : tie.Need-examine-sized-requires
 examine-sized-requires c κs = search needs
@@ -63,7 +54,7 @@ same-length c = search needs
 
 returns : tie.Need-returns
 returns c =
-    let start = c .before .before .before .before .before .before .before .before .before in
+    let start = begun (c .before .before .before .before) in
     let words = start .args .table .now in
     let low = start .args .low in
     let high = start .args .high in
@@ -81,7 +72,7 @@ same-length-2 c = search needs
 
 returns-2 : tie.Need-returns-2
 returns-2 c =
-    let start = c .before .before .before .before .before .before .before .before .before .before .before .before .before in
+    let start = begun (judged-at (c .before .before .before .before)) in
     let words = start .args .table .now in
     let low = start .args .low in
     let high = start .args .high in
@@ -89,8 +80,8 @@ returns-2 c =
     let many = start .args .many in
     let pre = start .pre in
     let p = c .before .before .before .before in
-    let chosen = within low high (take (p .found .given .0 .0) (p .before .before .before .before .examine-sized .last .1 .1 .0)) in
-    refused-short words low high output many (pre .0) (pre .1) (pre .2) (pre .3) (is-sound p) chosen (ap (within low high) (taken p))
+    let chosen = within low high (take (size p) (listed p)) in
+    refused-short words low high output many (pre .0) (pre .1) (pre .2) (pre .3) (found p .sound) chosen (ap (within low high) (found p .taken))
     (omega (arith, c .if1 .taken, c .before .count-within .ensures))
 
 copy-within-requires : tie.Need-copy-within-requires
@@ -105,7 +96,7 @@ same-length-4 c = search needs
 
 returns-3 : tie.Need-returns-3
 returns-3 c =
-    let start = c .before .before .before .before .before .before .before .before .before .before .before .before .before .before .before .before .before .before in
+    let start = begun (judged-at (c .before .before .before .before .before .before .before .before .before)) in
     let words = start .args .table .now in
     let low = start .args .low in
     let high = start .args .high in
@@ -115,8 +106,8 @@ returns-3 c =
     let p = c .before .before .before .before .before .before .before .before .before in
     let count = c .before .before .before .before .before .before .count-within in
     let copy = c .before .before .copy-within in
-    let chosen = within low high (take (p .found .given .0 .0) (p .before .before .before .before .examine-sized .last .1 .1 .0)) in
-    accepted words low high output many (pre .0) (pre .1) (pre .2) (pre .3) (is-sound p) chosen (ap (within low high) (taken p))
+    let chosen = within low high (take (size p) (listed p)) in
+    accepted words low high output many (pre .0) (pre .1) (pre .2) (pre .3) (found p .sound) chosen (ap (within low high) (found p .taken))
     (omega (arith, c .before .before .before .before .before .if1 .left, count .ensures)) (count .result) (count .ensures) (copy .last .1 .1 .1 .1 .0) (copy .ensures)
 
 pub range-in-spec : {M : Type 1} → statement M
