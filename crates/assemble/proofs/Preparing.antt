@@ -1,15 +1,15 @@
 -- What is prepared can be written: the order of priorities is an order of outranking, and links and leaders are positions.
 -- Assumes an order of at least 2.
-use mathlib.Core.Bool.{Bool, true, false, _||_, _&&_}
-use mathlib.Core.List.{List, [], _∷_, _++_, map}
-use mathlib.Core.Logic.{_≢_, inl, inr}
+use mathlib.Core.Bool.{true, _||_, _&&_}
+use mathlib.Core.List.{List, map}
+use mathlib.Core.Logic.{inl, inr}
 use mathlib.Core.Path.{_≡_, refl, sym, ap, ap₂, _∙_, subst, subst₂}
 use Prim.Native.Nat.{ℕ, zero, suc, _+_, _<_, _≤_}
 use native.Mathlib.Omega.{arith}
 use lib.Dec.{eqb, ltb, leb·suc-suc}
 use lib.ListN.{length, getD, take, replicate, length-map, length-take, length-replicate}
 use borrow.Author.Tests.{eqb-true, eqb-false}
-use Rattle.lists.specs.Lists.{member, upFrom, sortBy, All, Pairwise, Rising}
+use Rattle.lists.specs.Lists.{member, upFrom, sortBy, All, Rising}
 use Rattle.lists.proofs.Tests.{by-test, true-or-false}
 use Rattle.lists.proofs.Keep.{all-map, all-always}
 use Rattle.lists.proofs.Membership.{all-member}

@@ -1,35 +1,31 @@
 -- The words from the columns of a rising list of keys are those of the fresh table. Assumes an order of at least 2, rising
 -- keys, none of them zero, and columns by position as their definitions say.
-use mathlib.Core.Bool.{Bool, true, false, cond}
 use mathlib.Core.List.{List, [], _∷_, _++_, map, flatMap, map-map, Permᴰ·symm}
 use mathlib.Core.Logic.{_≢_}
-use mathlib.Core.Path.{_≡_, refl, sym, ap, ap₂, _∙_, subst}
-use Prim.Native.Nat.{ℕ, zero, suc, pred, _+_, _<_, _≤_}
+use mathlib.Core.Path.{_≡_, sym, ap, ap₂, _∙_, subst}
+use Prim.Native.Nat.{ℕ, zero, suc, _+_, _<_, _≤_}
 use native.Mathlib.Omega.{arith}
-use lib.Dec.{eqb}
-use lib.ListN.{length, getD, take, replicate, length-map}
-use lib.Seq.{getD-take}
-use borrow.Author.Tests.{eq-eqb, ne-eqb}
-use Rattle.lists.specs.Lists.{member, upFrom, sortBy, All, Rising}
-use Rattle.lists.proofs.Keep.{all-map, all-both}
+use lib.ListN.{length, getD, take, replicate}
+use borrow.Author.Tests.{ne-eqb}
+use Rattle.lists.specs.Lists.{sortBy, All, Rising}
+use Rattle.lists.proofs.Keep.{all-map}
 use Rattle.lists.proofs.Membership.{all-member, all-of-members}
 use Rattle.lists.proofs.FlatMap.{flatMap-same, flatMap-mapped}
 use Rattle.lists.proofs.Sorting.{all-permuted, sortBy-permutes}
-use Rattle.lists.proofs.UpFrom.{upFrom-length, upFrom-at, upFrom-member, upFrom-rising, upFrom-within}
+use Rattle.lists.proofs.UpFrom.{upFrom-member, upFrom-rising, upFrom-within}
 use Rattle.priority.specs.Priority.{priorityOf, homeOf}
 use Rattle.treap.specs.Treap.{top, outranks, leftLink, rightLink}
 use Rattle.treap.specs.Levels.{rank, count, leader}
-use Rattle.treap.specs.Slots.{placeAll, slotsOf}
+use Rattle.treap.specs.Slots.{slotsOf}
 use Rattle.structure.proofs.Relabel.{Renames, renamed-top, renamed-left, renamed-right, renamed-ranks, renamed-counts, renamed-leader}
 use Rattle.structure.proofs.RelabelSlots.{renamed-slots}
 use Rattle.columns.specs.Positions.{positions, weightAt}
 use Rattle.columns.specs.Columns.{leftColumn, rightColumn, rankColumn, countColumn, leaderColumn}
 use Rattle.columns.proofs.Filled.{column-at}
-use Rattle.table.specs.Layout.{slotWords}
 use Rattle.table.specs.Contents.{Contents}
 use Rattle.table.specs.Table.{homeIn, header, slotOf, fresh}
 use Rattle.encode.specs.Encode.{keyAt, Columns, slotAt, wordsOf}
-use Rattle.encode.proofs.Renaming.{maps-agree, key-at-suc, key-at-zero, keys-of-positions, keys-rename, keys-apart, place-home, all-placed, all-replicate}
+use Rattle.encode.proofs.Renaming.{maps-agree, key-at-zero, keys-of-positions, keys-rename, keys-apart, place-home, all-placed, all-replicate}
 
 -- Columns that begin with those of the definitions, over the priorities of the keys.
 pub record Right (order : ℕ) (keys : List ℕ) (c : Columns) : Type 0 where

@@ -1,19 +1,16 @@
 -- Positions stand for keys: `keyAt` renames the positions of a rising list to its keys. Assumes rising keys, none of them zero.
-use mathlib.Core.Bool.{Bool, true, false, cond}
-use mathlib.Core.List.{List, [], _∷_, _++_, map, head-eq-of-cons-eq, tail-eq-of-cons-eq}
+use mathlib.Core.Bool.{true}
+use mathlib.Core.List.{List, [], _∷_, map, head-eq-of-cons-eq, tail-eq-of-cons-eq}
 use mathlib.Core.Logic.{_≢_}
-use mathlib.Core.Path.{_≡_, refl, sym, ap, ap₂, _∙_, subst}
-use Prim.Native.Nat.{ℕ, zero, suc, pred, _+_, _<_, _≤_}
-use native.Mathlib.Nat.{suc-add, add-suc}
+use mathlib.Core.Path.{_≡_, refl, sym, ap, _∙_}
+use Prim.Native.Nat.{ℕ, zero, suc, _+_, _<_, _≤_}
 use native.Mathlib.Omega.{arith}
-use lib.Dec.{eqb}
-use lib.ListN.{length, getD, take, set, replicate, length-append}
-use lib.Seq.{append-snoc, getD-append-seam}
+use lib.ListN.{length, getD, set, replicate}
 use borrow.Author.Tests.{ne-eqb}
-use Rattle.lists.specs.Lists.{member, upFrom, All, Rising}
+use Rattle.lists.specs.Lists.{member, All, Rising}
 use Rattle.lists.proofs.Keep.{all-map, all-at}
 use Rattle.lists.proofs.Membership.{all-member}
-use Rattle.lists.proofs.UpFrom.{upFrom-within, mapped-at}
+use Rattle.lists.proofs.UpFrom.{upFrom-within, mapped-at, mapped-upFrom-all}
 use Rattle.treap.specs.Slots.{firstEmpty, placeAll}
 use Rattle.structure.proofs.Relabel.{Renames}
 use Rattle.columns.specs.Positions.{positions, weightAt}
@@ -45,16 +42,8 @@ position-is : (n i : ℕ) → member i (positions n) ≡ true → (1 ≤ i) × (
 position-is n i m = all-member (λ x. (1 ≤ x) × (x < 1 + n)) (positions n) i (upFrom-within 1 n) m
 
 -- the keys are the keys of the positions
-run-of-keys : (front keys : List ℕ) (a : ℕ) → a ≡ suc (length front) → map (keyAt (front ++ keys)) (upFrom a (length keys)) ≡ keys
-run-of-keys front [] a e = refl
-run-of-keys front (k ∷ keys) a e =
-    ap₂ (λ (x : ℕ) (xs : List ℕ). x ∷ xs)
-    (ap (keyAt (front ++ k ∷ keys)) e ∙ key-at-suc (front ++ k ∷ keys) (length front) ∙ getD-append-seam front k keys 0)
-    (ap (λ (ks : List ℕ). map (keyAt ks) (upFrom (suc a) (length keys))) (sym (append-snoc front k keys))
-    ∙ run-of-keys (front ++ (k ∷ [])) keys (suc a) (omega (arith, length-append front (k ∷ []))))
-
 pub keys-of-positions : (keys : List ℕ) → map (keyAt keys) (positions (length keys)) ≡ keys
-keys-of-positions keys = run-of-keys [] keys 1 refl
+keys-of-positions keys = mapped-upFrom-all (keyAt keys) keys 1 (λ i h. ap (keyAt keys) (omega arith) ∙ key-at-suc keys i)
 
 module _ (p : ℕ → ℕ) (keys : List ℕ) (rising : Rising keys) where
   pub keys-rename : Renames (keyAt keys) p (weightAt (map p keys)) (positions (length keys))

@@ -1,15 +1,15 @@
 -- Laws of `upFrom`, the numbers from a start on, and of maps over them. Assumes nothing.
-use mathlib.Core.Bool.{Bool, true, false, _||_}
+use mathlib.Core.Bool.{true}
 use mathlib.Core.List.{List, [], _∷_, _++_, map}
 use mathlib.Core.Logic.{_≢_}
-use mathlib.Core.Path.{_≡_, refl, sym, ap, ap₂, _∙_, subst}
+use mathlib.Core.Path.{_≡_, refl, sym, ap, ap₂, _∙_}
 use Prim.Native.Nat.{ℕ, zero, suc, _+_, _<_, _≤_}
 use native.Mathlib.Nat.{add-zero, add-suc, zero-add, suc-add}
 use native.Mathlib.Numerals.{add-one}
 use native.Mathlib.Omega.{arith}
 use lib.Dec.{eqb}
 use lib.ListN.{length, getD}
-use borrow.Author.Tests.{eq-eqb, eqb-false}
+use borrow.Author.Tests.{eqb-false}
 use Rattle.lists.specs.Lists.{member, upFrom, All, Rising}
 use Rattle.lists.proofs.Tests.{by-test, or-true-left, or-true-right}
 use Rattle.lists.proofs.Keep.{all-map}
@@ -61,3 +61,10 @@ mapped-at f (x ∷ xs) (suc i) h = mapped-at f xs i (omega arith)
 
 pub mapped-upFrom-at : (f : ℕ → ℕ) (a n i : ℕ) → i < n → getD (map f (upFrom a n)) i 0 ≡ f (a + i)
 mapped-upFrom-at f a n i h = mapped-at f (upFrom a n) i (omega (arith, upFrom-length a n)) ∙ ap f (upFrom-at a n i 0 h)
+
+-- a list read index by index
+pub mapped-upFrom-all : (f : ℕ → ℕ) (xs : List ℕ) (a : ℕ) → ((i : ℕ) → i < length xs → f (a + i) ≡ getD xs i 0) → map f (upFrom a (length xs)) ≡ xs
+mapped-upFrom-all f [] a h = refl
+mapped-upFrom-all f (x ∷ xs) a h =
+    ap₂ (λ (y : ℕ) (ys : List ℕ). y ∷ ys) (ap f (omega arith) ∙ h 0 (omega arith))
+    (mapped-upFrom-all f xs (suc a) (λ i l. ap f (omega arith) ∙ h (suc i) (omega arith)))

@@ -1,6 +1,6 @@
 -- The words of a fresh table: how many, its header, and what stands in its slots. Assumes nothing.
 use mathlib.Core.List.{List, [], _∷_, _++_, map, flatMap}
-use mathlib.Core.Path.{_≡_, refl, sym, ap, ap₂, _∙_}
+use mathlib.Core.Path.{_≡_, refl, sym, ap, _∙_}
 use Prim.Native.Nat.{ℕ, zero, suc, _+_, _*_, _<_}
 use native.Mathlib.Omega.{arith}
 use lib.Dec.{eqb}
@@ -9,6 +9,7 @@ use lib.Seq.{take-at, drop-append-add, getD-take, getD-drop}
 use borrow.Author.Tests.{eqb-true}
 use Rattle.lists.specs.Lists.{upFrom, sortBy}
 use Rattle.lists.proofs.Tests.{by-test}
+use Rattle.lists.proofs.UpFrom.{mapped-upFrom-all}
 use Rattle.priority.specs.Priority.{priorityOf}
 use Rattle.treap.specs.Treap.{top, outranks}
 use Rattle.treap.specs.Slots.{slotsOf}
@@ -85,16 +86,9 @@ module _ (many : ℕ) (c : Contents) where
       ∙ ap (λ (words : List ℕ). getD words keyField 0) (slot-in-fresh s h)
       ∙ slot-key c (getD (placedKeys many c) s 0)
 
--- a list read index by index
-read-all : (f : ℕ → ℕ) (xs : List ℕ) (a : ℕ) → ((i : ℕ) → i < length xs → f (a + i) ≡ getD xs i 0) → map f (upFrom a (length xs)) ≡ xs
-read-all f [] a h = refl
-read-all f (x ∷ xs) a h =
-    ap₂ (λ (y : ℕ) (ys : List ℕ). y ∷ ys) (ap f (omega arith) ∙ h 0 (omega arith))
-    (read-all f xs (suc a) (λ i l. ap f (omega arith) ∙ h (suc i) (omega arith)))
-
 pub fresh-keys : (many : ℕ) (c : Contents) → slotKeys many (fresh many c) ≡ placedKeys many c
 unfolding slotKeys
 fresh-keys many c =
     ap (λ (n : ℕ). map (keyIn (fresh many c)) (upFrom 0 n)) (sym (placed-length many c))
-    ∙ read-all (keyIn (fresh many c)) (placedKeys many c) 0
+    ∙ mapped-upFrom-all (keyIn (fresh many c)) (placedKeys many c) 0
     (λ i h. ap (keyIn (fresh many c)) (omega arith) ∙ fresh-key many c i (omega (arith, placed-length many c)))
