@@ -1,0 +1,2 @@
+-- Laws of steps, one subject a file.
+pub mod Moving
