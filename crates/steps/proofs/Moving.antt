@@ -1,11 +1,9 @@
 -- What the tests of a step say of its answer and of the place after it. Assumes nothing.
 use mathlib.Core.Bool.{Bool, true, false, not}
-use mathlib.Core.List.{List, [], _∷_}
+use mathlib.Core.List.{List}
 use mathlib.Core.Logic.{_≢_}
-use mathlib.Core.Path.{_≡_, refl, sym, ap, _∙_}
-use Prim.Native.Nat.{ℕ, _+_, _<_, _≤_}
-use native.Mathlib.Omega.{arith}
-use lib.Dec.{eqb}
+use mathlib.Core.Path.{_≡_, sym, ap}
+use Prim.Native.Nat.{ℕ, _+_}
 use lib.ListN.{length}
 use borrow.Author.Tests.{eq-eqb, ne-eqb}
 use Rattle.table.specs.Table.{contentsOf}
@@ -18,7 +16,7 @@ use Rattle.replies.specs.declared.Stepped.{Stepped}
 use Rattle.replies.specs.declared.Stepped.the-variants.{Key, End, Refused}
 use Rattle.calls.specs.Reasons.{wrongLength, notSound, shown}
 use Rattle.steps.specs.declared.Place.{Place}
-use Rattle.steps.specs.Steps.{greatestKey, placeOf, placeFrom, finished, stepRefusal, sought, yielded, passed, moved, stepReply, stepPlace}
+use Rattle.steps.specs.Steps.{greatestKey, placeOf, placeFrom, stepRefusal, sought, yielded, passed, moved, stepReply, stepPlace}
 
 -- ---- the place after a key
 module _ (key next high : ℕ) where
@@ -29,6 +27,12 @@ module _ (key next high : ℕ) where
   pub passed-greatest : key ≡ greatestKey → placeOf next high true ≡ passed key (placeFrom next high)
   unfolding passed
   passed-greatest e = rw (eq-eqb key greatestKey e)
+
+-- ---- a step that is not turned down
+module _ (words : List ℕ) (some : slotsFor (length words) ≢ 0) (sound : isSound words ≡ true) where
+  pub accepted : stepRefusal words ≡ 0
+  unfolding stepRefusal wrongLength notSound
+  accepted = rw (ne-eqb (slotsFor (length words)) 0 some, sound)
 
 -- ---- a step
 module _ (words : List ℕ) (next high : ℕ) (done : Bool) where
@@ -48,14 +52,12 @@ module _ (words : List ℕ) (next high : ℕ) (done : Bool) where
         (rw (right, unsound) (ap steppedOf a), rw (right, unsound) p)
 
     module _ (sound : isSound words ≡ true) where
-      -- a step that is not turned down
-      pub accepted : stepRefusal words ≡ 0
-      unfolding stepRefusal wrongLength notSound
-      accepted = rw (ne-eqb (slotsFor (length words)) 0 some, sound)
+      taken-up : stepRefusal words ≡ 0
+      taken-up = accepted words some sound
 
       pub was-done : done ≡ true → Meets End (placeOf next high done)
       unfolding stepReply stepPlace
-      was-done e = (rw (accepted, e), rw (accepted, e))
+      was-done e = (rw (taken-up, e), rw (taken-up, e))
 
       module _ (left : done ≡ false) (key : ℕ) (found : key ≡ leastWithin next high (contentsOf (slotsFor (length words)) words .keys)) where
         key-sought : sought words (placeFrom next high) ≡ key
@@ -64,8 +66,8 @@ module _ (words : List ℕ) (next high : ℕ) (done : Bool) where
 
         pub at-the-end : key ≡ 0 → Meets End (placeOf next high true)
         unfolding stepReply stepPlace yielded moved
-        at-the-end e = let none = eq-eqb key 0 e in (rw (accepted, left, key-sought, none), rw (accepted, left, key-sought, none))
+        at-the-end e = let none = eq-eqb key 0 e in (rw (taken-up, left, key-sought, none), rw (taken-up, left, key-sought, none))
 
         pub at-a-key : key ≢ 0 → (after : Place) → after ≡ passed key (placeFrom next high) → Meets (Key key) after
         unfolding stepReply stepPlace yielded moved
-        at-a-key d after p = let one = ne-eqb key 0 d in (rw (accepted, left, key-sought, one), rw (accepted, left, key-sought, one) p)
+        at-a-key d after p = let one = ne-eqb key 0 d in (rw (taken-up, left, key-sought, one), rw (taken-up, left, key-sought, one) p)

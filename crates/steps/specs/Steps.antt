@@ -4,7 +4,6 @@ use mathlib.Core.List.{List, [], _∷_, _++_, map}
 use Prim.Native.Nat.{ℕ, zero, suc, _+_}
 use lib.Dec.{eqb}
 use lib.ListN.{take, replicate}
-use Rattle.ranges.specs.Ranges.{within}
 use Rattle.seek.specs.Seek.{leastWithin}
 use Rattle.replies.specs.Replies.{Reply, lowest, unlessRefused}
 use Rattle.calls.specs.Reasons.{wrongLength, notSound, shown}
@@ -79,6 +78,6 @@ abbrev pub stepsFrom : List ℕ → ℕ → Place → List Reply
 stepsFrom words zero place = []
 stepsFrom words (suc n) place = stepReply words place ∷ stepsFrom words n (stepPlace words place)
 
--- "A range may also be had key by key": the first so many replies of each key that a range writes, then of end for ever.
-unfoldable pub keyByKey : List ℕ → ℕ → ℕ → ℕ → List Reply
-keyByKey words low high n = take n (map keyReply (within low high (shown words .keys)) ++ replicate n endReply)
+-- "A range may also be had key by key": the first so many replies, when each key of a list is yielded and then end for ever.
+unfoldable pub keysThenEnd : List ℕ → ℕ → List Reply
+keysThenEnd keys n = take n (map keyReply keys ++ replicate n endReply)
