@@ -19,13 +19,13 @@ use Rattle.judge.specs.Judge.{slotsFor, isSound}
 use Rattle.judge.proofs.Lengths.{SlotsOf, slots-for-is, slots-for-some}
 
 module _ (words : List ℕ) where
-  some-slots : isSound words ≡ true → slotsFor (length words) ≢ 0
+  pub some-slots : isSound words ≡ true → slotsFor (length words) ≢ 0
   unfolding isSound
   some-slots passed e =
       let many = slotsFor (length words) in
       true-or-false (not (eqb many 0)) (and-left (not (eqb many 0)) (soundWith many words) passed) (ap not (eq-eqb many 0 e))
 
-  passed-with : isSound words ≡ true → soundWith (slotsFor (length words)) words ≡ true
+  pub passed-with : isSound words ≡ true → soundWith (slotsFor (length words)) words ≡ true
   unfolding isSound
   passed-with passed =
       let many = slotsFor (length words) in

@@ -1,0 +1,2 @@
+-- Reading a range key by key.
+pub mod Steps
