@@ -2,3 +2,4 @@
 pub mod Moving
 pub mod Least
 pub mod Stepping
+pub mod TwoFacts

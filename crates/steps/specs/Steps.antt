@@ -1,7 +1,7 @@
 -- What a step replies and where it leaves its place, and what steps in a row reply. Assumes nothing.
 use mathlib.Core.Bool.{Bool, true, false, cond}
 use mathlib.Core.List.{List, [], _∷_, _++_, map}
-use Prim.Native.Nat.{ℕ, zero, suc, _+_}
+use Prim.Native.Nat.{ℕ, zero, suc, _+_, _-_, _^_}
 use lib.Dec.{eqb}
 use lib.ListN.{take, replicate}
 use Rattle.seek.specs.Seek.{leastWithin}
@@ -11,7 +11,7 @@ use Rattle.steps.specs.declared.Place.{Place}
 
 -- "A key is a 64-bit unsigned number, 1 to 2^64 − 1": the last of them.
 abbrev pub greatestKey : ℕ
-greatestKey = 18446744073709551615
+greatestKey = 2 ^ 64 - 1
 
 -- "The place is one small record, next, high and a done mark".
 abbrev pub placeOf : ℕ → ℕ → Bool → Place

@@ -117,3 +117,13 @@ pub fn step_at(table: &[u64], next: u64, high: u64, done: bool) -> Moved
         place: place_after(key, next, high),
     }
 }
+
+// Take one step: answer as `step_at` does, and move the place on where it lies. Refusals: 1, 7.
+pub fn step(table: &[u64], place: &mut Place) -> Stepped
+    ensures { λ r. ⌜ steppedOf r ≡ stepReply (now (table .entry)) (now (place .entry)) ⌝ }
+    ensures { λ _. ⌜ now (place .exit) ≡ stepPlace (now (table .entry)) (now (place .entry)) ⌝ }
+{
+    let moved = step_at(table, place.next, place.high, place.done);
+    *place = moved.place;
+    moved.answer
+}
