@@ -1,14 +1,15 @@
 -- Document 01's examples A to H as one table: what is given of each, and what the definitions must make of it.
 -- The order is 3 throughout. Assumes nothing.
 use mathlib.Core.Bool.{Bool, true, false, cond, not}
-use mathlib.Core.List.{List, [], _∷_, map}
+use mathlib.Core.List.{List, [], _∷_, _++_, map}
 use Prim.Native.Nat.{ℕ, zero, suc}
 use lib.Dec.{eqb}
-use lib.ListN.{length}
+use lib.ListN.{length, take}
 use Rattle.lists.specs.Lists.{keep, member}
 use Rattle.treap.specs.Levels.{rank, count, leader}
 use Rattle.treap.specs.Blocks.{Block, blocks, parents, fill, blocksMet}
 use Rattle.treap.specs.Slots.{slotsOf}
+use Rattle.treap.specs.Image.{image}
 
 -- What an example gives.
 pub record Given : Type 0 where
@@ -23,6 +24,8 @@ pub record Given : Type 0 where
   pub home : ℕ
   -- keys to delete
   pub deleted : List ℕ
+  -- how many bytes of the image are asked for: one more than it has where they are written here, so that all are
+  pub bytes : ℕ
 
 -- A block's name.
 pub record Name : Type 0 where
@@ -30,7 +33,8 @@ pub record Name : Type 0 where
   pub level : ℕ
 
 -- What the definitions make of it: a number for each key, rising; the blocks in image order; for each block the names
--- of its parents; the fill; the number of blocks met by each lookup; the slots, and the slots after the deletions.
+-- of its parents; the fill; the number of blocks met by each lookup; the slots, and the slots after the deletions; the
+-- image's bytes, as many as are written.
 pub record Outcome : Type 0 where
   pub ranks : List ℕ
   pub counts : List ℕ
@@ -41,6 +45,7 @@ pub record Outcome : Type 0 where
   pub met : List ℕ
   pub before : List ℕ
   pub after : List ℕ
+  pub image : List ℕ
 
 pub record Example : Type 0 where
   pub given : Given
@@ -74,14 +79,15 @@ outcomeOf g =
       met = map (blocksMet 3 p ks) (g .sought);
       before = slotsOf p (λ k. g .home) (g .slots) ks;
       after = slotsAfter p g;
+      image = take (g .bytes) (image 3 p ks);
     }
 
 -- Keys with their written order, where neither lookups nor slots are asked for, and what is then made of them.
 abbrev shape : List ℕ → List ℕ → Given
-shape ks ranked = record { keys = ks; ranked = ranked; sought = []; slots = 0; home = 0; deleted = [] }
+shape ks ranked = record { keys = ks; ranked = ranked; sought = []; slots = 0; home = 0; deleted = []; bytes = 0 }
 
 abbrev shaped : List ℕ → List ℕ → List ℕ → List Block → List (List Name) → ℕ → Outcome
-shaped rs cs ls bs ps full = record { ranks = rs; counts = cs; leaders = ls; blocks = bs; parents = ps; fill = full; met = []; before = []; after = [] }
+shaped rs cs ls bs ps full = record { ranks = rs; counts = cs; leaders = ls; blocks = bs; parents = ps; fill = full; met = []; before = []; after = []; image = [] }
 
 abbrev named : ℕ → ℕ → Name
 named v i = record { leaderKey = v; level = i }
@@ -89,16 +95,65 @@ named v i = record { leaderKey = v; level = i }
 abbrev holds : ℕ → ℕ → List ℕ → Block
 holds v i ks = record { leaderKey = v; level = i; held = ks }
 
--- A. No keys: no block.
-abbrev none : Example
-none = record { given = shape [] []; outcome = shaped [] [] [] [] [] 0 }
+-- The same with the bytes of the image.
+abbrev imaged : ℕ → Given → Given
+imaged n g =
+    record {
+      keys = g .keys;
+      ranked = g .ranked;
+      sought = g .sought;
+      slots = g .slots;
+      home = g .home;
+      deleted = g .deleted;
+      bytes = n;
+    }
 
--- B. Key 5: rank 0, count 1, one block (5, 0).
+abbrev withImage : List ℕ → Outcome → Outcome
+withImage bytes o =
+    record {
+      ranks = o .ranks;
+      counts = o .counts;
+      leaders = o .leaders;
+      blocks = o .blocks;
+      parents = o .parents;
+      fill = o .fill;
+      met = o .met;
+      before = o .before;
+      after = o .after;
+      image = bytes;
+    }
+
+-- Number 5 as a key, and no key, in eight bytes.
+abbrev fiveInBytes : List ℕ
+fiveInBytes = 5 ∷ 0 ∷ 0 ∷ 0 ∷ 0 ∷ 0 ∷ 0 ∷ 0 ∷ []
+
+abbrev noneInBytes : List ℕ
+noneInBytes = 0 ∷ 0 ∷ 0 ∷ 0 ∷ 0 ∷ 0 ∷ 0 ∷ 0 ∷ []
+
+-- A. No keys: no block, a 15-byte image.
+abbrev none : Example
+none =
+    record {
+      given = imaged 16 (shape [] []);
+      outcome = withImage (76 ∷ 72 ∷ 3 ∷ 0 ∷ 0 ∷ 0 ∷ 0 ∷ noneInBytes) (shaped [] [] [] [] [] 0);
+    }
+
+-- B. Key 5: rank 0, count 1, one block (5, 0). "B's image (hexadecimal, `..` is seven zero bytes, `--` eight):
+-- 4C48 03 0100 0100 05.. 4C42 05.. 0000 0100 4C4E 05.. -- -- 0000 0100".
 abbrev lone : Example
 lone =
     record {
-      given = shape (5 ∷ []) (5 ∷ []);
-      outcome = shaped (0 ∷ []) (1 ∷ []) (0 ∷ []) (holds 5 0 (5 ∷ []) ∷ []) ([] ∷ []) 20;
+      given = imaged 60 (shape (5 ∷ []) (5 ∷ []));
+      outcome =
+          withImage
+          ((0x4C ∷ 0x48 ∷ 3 ∷ 1 ∷ 0 ∷ 1 ∷ 0 ∷ fiveInBytes)
+          ++ (0x4C ∷ 0x42 ∷ fiveInBytes)
+          ++ (0 ∷ 0 ∷ 1 ∷ 0 ∷ [])
+          ++ (0x4C ∷ 0x4E ∷ fiveInBytes)
+          ++ noneInBytes
+          ++ noneInBytes
+          ++ (0 ∷ 0 ∷ 1 ∷ 0 ∷ []))
+          (shaped (0 ∷ []) (1 ∷ []) (0 ∷ []) (holds 5 0 (5 ∷ []) ∷ []) ([] ∷ []) 20);
     }
 
 -- C. 5, 9; 9 outranks 5: ranks 0 and 1, one block (9, 1).
@@ -134,6 +189,7 @@ deep =
             slots = 0;
             home = 0;
             deleted = [];
+            bytes = 0;
           };
       outcome =
           record {
@@ -146,6 +202,7 @@ deep =
             met = 3 ∷ 3 ∷ 2 ∷ [];
             before = [];
             after = [];
+            image = [];
           };
     }
 
@@ -175,7 +232,7 @@ six =
 abbrev wrapped : Example
 wrapped =
     record {
-      given = record { keys = 1 ∷ 2 ∷ []; ranked = 1 ∷ 2 ∷ []; sought = []; slots = 3; home = 2; deleted = 1 ∷ [] };
+      given = record { keys = 1 ∷ 2 ∷ []; ranked = 1 ∷ 2 ∷ []; sought = []; slots = 3; home = 2; deleted = 1 ∷ []; bytes = 0 };
       outcome =
           record {
             ranks = 1 ∷ 0 ∷ [];
@@ -187,6 +244,7 @@ wrapped =
             met = [];
             before = 2 ∷ 0 ∷ 1 ∷ [];
             after = 0 ∷ 0 ∷ 2 ∷ [];
+            image = [];
           };
     }
 
