@@ -1,0 +1,46 @@
+// The image of what a table holds, and which bytes are one, as definitions and laws. The numbers of its layout, for the crates
+// whose code reads or writes its bytes; `specs/Layout` has the same by name.
+
+// The bytes of a record: the header, a block, a node.
+pub const HEADER_BYTES: usize = 15;
+
+pub const BLOCK_BYTES: usize = 14;
+
+pub const NODE_BYTES: usize = 30;
+
+// The bytes of a field: the order; a count, a level or a rank; a key.
+pub const ORDER_BYTES: usize = 1;
+
+pub const COUNT_BYTES: usize = 2;
+
+pub const KEY_BYTES: usize = 8;
+
+// Where the header's fields begin.
+pub const ORDER_AT: usize = 2;
+
+pub const SIZE_AT: usize = 3;
+
+pub const BLOCKS_AT: usize = 5;
+
+pub const ROOT_AT: usize = 7;
+
+// Where a block record's fields begin.
+pub const LEADER_AT: usize = 2;
+
+pub const LEVEL_AT: usize = 10;
+
+pub const HELD_AT: usize = 12;
+
+// Where a node record's fields begin.
+pub const KEY_AT: usize = 2;
+
+pub const LEFT_AT: usize = 10;
+
+pub const RIGHT_AT: usize = 18;
+
+pub const RANK_AT: usize = 26;
+
+pub const COUNT_AT: usize = 28;
+
+// The bytes of the longest image: of 4,096 keys in as many blocks.
+pub const MOST_BYTES: usize = 180239;
