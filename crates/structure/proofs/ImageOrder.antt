@@ -8,7 +8,7 @@ use Prim.Native.Nat.{ℕ, zero, suc, pred, _+_, _<_, _≤_}
 use native.Mathlib.Omega.{arith}
 use lib.Dec.{eqb, ltb}
 use lib.ListN.{length}
-use borrow.Author.Tests.{ltb-true, ltb-false, lt-ltb, eqb-true, eq-eqb, ne-eqb}
+use borrow.Author.Tests.{eqb-true, eqb-false, eq-eqb, ne-eqb}
 use Rattle.lists.specs.Lists.{keep, member, All, Pairwise, Rising, sortBy, fallingFrom, runs}
 use Rattle.lists.proofs.Tests.{by-test, true-or-false, or-true-left, or-true-right, or-true-cases, and-left, and-right}
 use Rattle.lists.proofs.Keep.{all-map, all-mapped, all-always, all-both, all-keep}
@@ -20,8 +20,9 @@ use Rattle.lists.proofs.Runs.{runs-of-parts}
 use Rattle.treap.specs.Treap.{top}
 use Rattle.treap.specs.Levels.{rank, leader}
 use Rattle.treap.specs.Blocks.{Block, rootRank, rootBlock, block, blocksOfLevel, blocks, holding}
-use Rattle.structure.proofs.Blocks.{blockLevel, blockOf, held-by-root, held-by-block, level-under, Formed, blocks-formed, Holds, blocks-hold, holding-is}
+use Rattle.structure.proofs.Blocks.{blockLevel, held-by-root, held-by-block, level-of-root, level-of-other, level-under, Formed, blocks-formed, Holds, blocks-hold, holding-is}
 use Rattle.structure.proofs.Blocks.Formed.{at-root, below}
+use Rattle.structure.proofs.BlockSizes.{led-by-top}
 use Rattle.structure.proofs.Precedence.{precedes, agree, precedes-when, precedes-trans, precedes-one-way, precedes-total, agree-when, agree-similar}
 use Rattle.structure.proofs.Precedence.Earlier.{by-first, by-second, by-itself}
 
@@ -48,6 +49,19 @@ pub data NameBefore (b c : Block) : Type 0 where
   lesser : b .level ≡ c .level → b .leaderKey < c .leaderKey → NameBefore b c
 
 module _ (α : ℕ) (p : ℕ → ℕ) (wide : 2 ≤ α) (ks : List ℕ) (rising : Rising ks) where
+  -- the root's block is named by the root, and any other key's by the key's leader
+  pub blockLeader-is : (x : ℕ) → member x ks ≡ true → blockLeader α p ks x ≡ cond (eqb x (top p ks)) (top p ks) (leader α p ks x)
+  unfolding blockLeader
+  blockLeader-is x m =
+      by-test (eqb x (top p ks))
+      (λ e. rw (e, eq-eqb (blockLevel α p ks x) (rootRank α p ks) (level-of-root α p ks wide rising x (eqb-true x (top p ks) e))))
+      (λ e.
+      let level = level-of-other α p ks wide rising x (eqb-false x (top p ks) e) in
+      rw e
+      (by-test (eqb (blockLevel α p ks x) (rootRank α p ks))
+      (λ q. rw q (sym (led-by-top α p wide ks rising x m (sym level ∙ eqb-true (blockLevel α p ks x) (rootRank α p ks) q))))
+      (λ q. rw q)))
+
   -- ---- the keys that a block holds have its name
   named-by : (b : Block) → Formed α p ks b → (x : ℕ) → member x ks ≡ true → member x (b .held) ≡ true → Named α p ks b x
   unfolding blockLeader rootBlock block

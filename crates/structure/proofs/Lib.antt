@@ -19,3 +19,4 @@ pub mod Relabel
 pub mod RelabelSlots
 pub mod Precedence
 pub mod ImageOrder
+pub mod BlockRuns

@@ -7,7 +7,7 @@ use Prim.Native.Nat.{ℕ, _<_}
 use native.Mathlib.Omega.{arith}
 use lib.Dec.{eqb, ltb}
 use borrow.Author.Tests.{ltb-true, lt-ltb, eqb-true, eq-eqb}
-use Rattle.lists.proofs.Tests.{true-or-false, or-true-cases, or-true-left, or-true-right, and-left, and-right, and-both, Compared, compared}
+use Rattle.lists.proofs.Tests.{by-test, true-or-false, or-true-cases, or-true-left, or-true-right, and-left, and-right, and-both, Compared, compared}
 use Rattle.lists.proofs.Tests.Compared.{less, same, more}
 
 -- `x` comes before `y`: `f` falls, then `g` rises, then the number rises.
@@ -98,3 +98,11 @@ module _ (f g : ℕ → ℕ) where
   agree-similar x y z h =
       ap (λ (n : ℕ). eqb n (f z) && eqb (g x) (g z)) (eqb-true (f x) (f y) (and-left (eqb (f x) (f y)) (eqb (g x) (g y)) h))
       ∙ ap (λ (n : ℕ). eqb (f y) (f z) && eqb n (g z)) (eqb-true (g x) (g y) (and-right (eqb (f x) (f y)) (eqb (g x) (g y)) h))
+
+  pub agree-says : (x y : ℕ) → agree f g x y ≡ true → (f x ≡ f y) × (g x ≡ g y)
+  unfolding agree
+  agree-says x y h =
+      (eqb-true (f x) (f y) (and-left (eqb (f x) (f y)) (eqb (g x) (g y)) h), eqb-true (g x) (g y) (and-right (eqb (f x) (f y)) (eqb (g x) (g y)) h))
+
+  pub agree-differs : (x y : ℕ) → ((f x ≡ f y) → (g x ≡ g y) → ⊥) → agree f g x y ≡ false
+  agree-differs x y d = by-test (agree f g x y) (λ h. absurd (d (agree-says x y h .0) (agree-says x y h .1))) (λ h. h)
