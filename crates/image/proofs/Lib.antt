@@ -1,1 +1,3 @@
 -- Laws of the image, one subject a file.
+pub mod Bytes
+pub mod Records
