@@ -2,3 +2,5 @@
 pub mod Bytes
 pub mod Records
 pub mod Lengths
+pub mod Reading
+pub mod Judging
