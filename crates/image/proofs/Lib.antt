@@ -1,1 +1,6 @@
 -- Laws of the image, one subject a file.
+pub mod Bytes
+pub mod Records
+pub mod Lengths
+pub mod Reading
+pub mod Judging

@@ -20,3 +20,4 @@ pub mod RelabelSlots
 pub mod Precedence
 pub mod ImageOrder
 pub mod BlockRuns
+pub mod Weights
