@@ -154,3 +154,7 @@ pub all-at : {A : Type 0} (P : A → Type 0) (xs : List A) (i : ℕ) (d : A) →
 all-at P [] i d h k = absurd (omega arith)
 all-at P (x ∷ xs) zero d h k = h .0
 all-at P (x ∷ xs) (suc i) d h k = all-at P xs i d (h .1) (omega arith)
+
+pub all-of-entries : {A : Type 0} (P : A → Type 0) (xs : List A) (d : A) → ((i : ℕ) → P (getD xs i d)) → All P xs
+all-of-entries P [] d h = tt
+all-of-entries P (x ∷ xs) d h = (h 0, all-of-entries P xs d (λ i. h (suc i)))
