@@ -72,7 +72,7 @@ module _ (α : ℕ) (p : ℕ → ℕ) (ks : List ℕ) where
         ap (fieldAt heldAt countBytes) record-first
         ∙ block-held (b .leaderKey) (b .level) (length (b .held)) (flatMap (nodeOf α p ks) (b .held) ++ rest) (readable .few)
 
-    part-nodes : drop blockBytes (blockPart α p ks b ++ rest) ≡ flatMap (nodeOf α p ks) (b .held) ++ rest
+    pub part-nodes : drop blockBytes (blockPart α p ks b ++ rest) ≡ flatMap (nodeOf α p ks) (b .held) ++ rest
     part-nodes =
         ap (drop blockBytes) record-first
         ∙ block-dropped (b .leaderKey) (b .level) (length (b .held)) (flatMap (nodeOf α p ks) (b .held) ++ rest)
@@ -124,14 +124,14 @@ module _ (c : Contents) (valid : Valid mostSlots c) where
       let bs = blocks (c .order) priorityOf (c .keys) in
       header-order (c .order) (length (c .keys)) (length bs) (top priorityOf (c .keys)) (flatMap (blockPart (c .order) priorityOf (c .keys)) bs) (order-within c valid .1)
 
-  number-read : fieldAt blocksAt countBytes (imageOf c) ≡ length (blocks (c .order) priorityOf (c .keys))
+  pub number-read : fieldAt blocksAt countBytes (imageOf c) ≡ length (blocks (c .order) priorityOf (c .keys))
   unfolding imageOf image
   number-read =
       let bs = blocks (c .order) priorityOf (c .keys) in
       let fit : length (c .keys) ≤ 4096 = valid .keys-fit in
       header-blocks (c .order) (length (c .keys)) (length bs) (top priorityOf (c .keys)) (flatMap (blockPart (c .order) priorityOf (c .keys)) bs) (omega (arith, blocks-fit c valid))
 
-  parts-read : drop headerBytes (imageOf c) ≡ flatMap (blockPart (c .order) priorityOf (c .keys)) (blocks (c .order) priorityOf (c .keys))
+  pub parts-read : drop headerBytes (imageOf c) ≡ flatMap (blockPart (c .order) priorityOf (c .keys)) (blocks (c .order) priorityOf (c .keys))
   unfolding imageOf image
   parts-read =
       let bs = blocks (c .order) priorityOf (c .keys) in

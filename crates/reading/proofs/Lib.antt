@@ -2,3 +2,4 @@
 pub mod Marks
 pub mod Windows
 pub mod Walking
+pub mod Readable
