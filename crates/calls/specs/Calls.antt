@@ -9,11 +9,12 @@ use Rattle.treap.specs.Levels.{rank, count, leader}
 use Rattle.treap.specs.Blocks.{blocksMet}
 use Rattle.table.specs.Contents.{Contents}
 use Rattle.table.specs.Table.{fresh}
+use Rattle.image.specs.Image.{imageOf, readImage}
 use Rattle.edit.specs.Edit.{joined, without}
 use Rattle.judge.specs.Judge.{slotsFor}
 use Rattle.ranges.specs.Ranges.{within}
 use Rattle.replies.specs.Replies.{Reply, lowest, unlessRefused}
-use Rattle.calls.specs.Reasons.{wrongLength, wrongOrder, zeroKey, lowAboveHigh, notRising, notSound, keyHeld, keyAbsent, tooManyKeys, outputTooShort, shown}
+use Rattle.calls.specs.Reasons.{wrongLength, wrongOrder, zeroKey, lowAboveHigh, notRising, notAnImage, notSound, keyHeld, keyAbsent, tooManyKeys, outputTooShort, shown}
 
 -- The table of an order and keys, of so many slots as the words have.
 unfoldable pub rewritten : List ℕ → Contents → List ℕ
@@ -132,3 +133,31 @@ rangeReply words low high output =
 unfoldable pub rangeOutput : List ℕ → ℕ → ℕ → List ℕ → List ℕ
 rangeOutput words low high output =
     unlessRefused (rangeRefusal words low high output) (overwrite output 0 (within low high (shown words .keys))) output
+
+-- "Writer 1, 7, 11."
+unfoldable pub writeRefusal : List ℕ → List ℕ → ℕ
+writeRefusal words output =
+    lowest (wrongLength words ∷ notSound words ∷ outputTooShort (length output) (length (imageOf (shown words))) ∷ [])
+
+-- "The writer gives it", the image's length, "and changes no later output byte."
+unfoldable pub writeReply : List ℕ → List ℕ → Reply
+writeReply words output =
+    record {
+      refusal = writeRefusal words output;
+      numbers = unlessRefused (writeRefusal words output) (length (imageOf (shown words)) ∷ []) (0 ∷ []);
+    }
+
+unfoldable pub writeOutput : List ℕ → List ℕ → List ℕ
+writeOutput words output = unlessRefused (writeRefusal words output) (overwrite output 0 (imageOf (shown words))) output
+
+-- "Reader 1, 6, 10."
+unfoldable pub readRefusal : List ℕ → List ℕ → ℕ
+readRefusal words bytes =
+    lowest (wrongLength words ∷ notAnImage bytes ∷ tooManyKeys words (length (readImage bytes .keys)) ∷ [])
+
+unfoldable pub readReply : List ℕ → List ℕ → Reply
+readReply words bytes = record { refusal = readRefusal words bytes; numbers = [] }
+
+-- The table for "the order and set whose image the bytes are".
+unfoldable pub readAfter : List ℕ → List ℕ → List ℕ
+readAfter words bytes = unlessRefused (readRefusal words bytes) (rewritten words (readImage bytes)) words

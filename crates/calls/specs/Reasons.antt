@@ -7,6 +7,7 @@ use lib.ListN.{length}
 use Rattle.lists.specs.Lists.{nonzero, risesB, every, member}
 use Rattle.table.specs.Contents.{Contents, newOrder}
 use Rattle.table.specs.Table.{contentsOf}
+use Rattle.image.specs.Image.{isImage}
 use Rattle.judge.specs.Judge.{slotsFor, isSound}
 use Rattle.replies.specs.Replies.{Reason}
 
@@ -37,6 +38,10 @@ risingKeys list = risesB list && every nonzero list
 -- "5. The build list is not strictly rising or has a zero."
 unfoldable pub notRising : List ℕ → Reason
 notRising list = record { number = 5; applies = not (risingKeys list) }
+
+-- "6. The image is not one that the writer makes for any order and any set of at most 4,096 keys."
+unfoldable pub notAnImage : List ℕ → Reason
+notAnImage bytes = record { number = 6; applies = not (isImage bytes) }
 
 -- "7. The table is not sound."
 unfoldable pub notSound : List ℕ → Reason

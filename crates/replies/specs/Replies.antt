@@ -16,6 +16,10 @@ use Rattle.replies.specs.declared.LookedUp.{LookedUp}
 use Rattle.replies.specs.declared.LookedUp.the-variants as looked-up
 use Rattle.replies.specs.declared.Ranged.{Ranged}
 use Rattle.replies.specs.declared.Ranged.the-variants as ranged
+use Rattle.replies.specs.declared.Written.{Written}
+use Rattle.replies.specs.declared.Written.the-variants as written
+use Rattle.replies.specs.declared.ReadBack.{ReadBack}
+use Rattle.replies.specs.declared.ReadBack.the-variants as read-back
 use Rattle.replies.specs.declared.Stepped.{Stepped}
 use Rattle.replies.specs.declared.Stepped.the-variants as stepped
 
@@ -77,6 +81,15 @@ lookedUpOf (looked-up.Refused r) = record { refusal = numberOf r; numbers = 0 �
 abbrev pub rangedOf : Ranged → Reply
 rangedOf (ranged.Wrote n) = record { refusal = 0; numbers = n ∷ [] }
 rangedOf (ranged.Refused r) = record { refusal = numberOf r; numbers = 0 ∷ [] }
+
+-- "Length is 15 + 14·b + 30·n; the writer gives it".
+abbrev pub writtenOf : Written → Reply
+writtenOf (written.Bytes n) = record { refusal = 0; numbers = n ∷ [] }
+writtenOf (written.Refused r) = record { refusal = numberOf r; numbers = 0 ∷ [] }
+
+abbrev pub readBackOf : ReadBack → Reply
+readBackOf read-back.Done = record { refusal = 0; numbers = [] }
+readBackOf (read-back.Refused r) = record { refusal = numberOf r; numbers = [] }
 
 -- "The step yields the least held key", one and the key, or "answers end", two zeros.
 abbrev pub steppedOf : Stepped → Reply

@@ -58,6 +58,18 @@ pub enum LookedUp {
     Refused(Refusal),
 }
 
+// The answer of a writing: how many bytes the image has.
+pub enum Written {
+    Bytes(usize),
+    Refused(Refusal),
+}
+
+// The answer of a reading.
+pub enum ReadBack {
+    Done,
+    Refused(Refusal),
+}
+
 // The answer of a range: how many keys were written.
 pub enum Ranged {
     Wrote(usize),
