@@ -1,4 +1,6 @@
 // What the calls answer.
+ghost use mathlib.Core.Path.{_≡_};
+ghost use Rattle.replies.specs.Replies.{numberOf};
 use lookup::Standing;
 
 // Why a call was turned down.
@@ -25,6 +27,25 @@ pub enum Refusal {
     TooManyKeys,
     // The output is longer than the room for it.
     OutputTooShort,
+}
+
+// The number of a refusal, 1 to 11.
+pub fn number(reason: Refusal) -> u64
+    ensures { λ r. ⌜ r ≡ numberOf reason ⌝ }
+{
+    match reason {
+        Refusal::WrongLength => 1,
+        Refusal::WrongOrder => 2,
+        Refusal::ZeroKey => 3,
+        Refusal::LowAboveHigh => 4,
+        Refusal::NotRising => 5,
+        Refusal::NotAnImage => 6,
+        Refusal::NotSound => 7,
+        Refusal::KeyHeld => 8,
+        Refusal::KeyAbsent => 9,
+        Refusal::TooManyKeys => 10,
+        Refusal::OutputTooShort => 11,
+    }
 }
 
 // The answer of a set-up.
