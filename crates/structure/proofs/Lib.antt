@@ -21,3 +21,4 @@ pub mod Precedence
 pub mod ImageOrder
 pub mod BlockRuns
 pub mod Weights
+pub mod BlockTurns
