@@ -22,3 +22,4 @@ pub mod ImageOrder
 pub mod BlockRuns
 pub mod Weights
 pub mod BlockTurns
+pub mod Bounds
