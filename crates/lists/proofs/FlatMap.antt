@@ -1,14 +1,14 @@
 -- Laws of `flatMap` with `keep`, `All` and `Pairwise`, and of `fallingFrom`. Assumes nothing.
-use mathlib.Core.Bool.{Bool, true, false, cond}
+use mathlib.Core.Bool.{Bool, true, false, cond, _||_, _&&_}
 use mathlib.Core.List.{List, [], _∷_, _++_, map, flatMap, append-nil, append-assoc}
-use mathlib.Core.Logic.{_⊎_, _≢_, ⊎-elim}
-use mathlib.Core.Path.{_≡_, refl, sym, ap, ap₂, _∙_}
+use mathlib.Core.Logic.{_⊎_, _≢_, inl, inr, ⊎-elim}
+use mathlib.Core.Path.{_≡_, refl, sym, ap, ap₂, _∙_, subst}
 use Prim.Native.Nat.{ℕ, zero, suc, _+_, _<_, _≤_}
 use native.Mathlib.Omega.{arith}
 use lib.Dec.{eqb}
 use lib.ListN.{length, length-append}
 use borrow.Author.Tests.{eqb-true, eqb-false, ne-eqb}
-use Rattle.lists.specs.Lists.{keep, All, Pairwise, member, fallingFrom, Rising}
+use Rattle.lists.specs.Lists.{consIf, keep, All, Pairwise, member, fallingFrom, Rising}
 use Rattle.lists.proofs.Tests.{by-test, true-or-false, or-true-cases}
 use Rattle.lists.proofs.Keep.{all-map, all-mapped, all-append, keep-append, keep-none}
 
@@ -55,7 +55,7 @@ module _ {A B : Type 0} (R : B → B → Type 0) (g : A → List B) where
   pairwise-flatMap [] h k = tt
   pairwise-flatMap (a ∷ vs) h k = related-append (g a) (flatMap g vs) (h .0) (pairwise-flatMap vs (h .1) (k .1)) (related-all (g a) vs (k .0))
 
--- as many parts as elements, and no part empty: no fewer elements than parts
+-- where no part is empty, there are no more parts than elements in all
 pub length-flatMap-some : {A B : Type 0} (g : A → List B) (vs : List A) → All (λ a. 0 < length (g a)) vs → length vs ≤ length (flatMap g vs)
 unfolding flatMap
 length-flatMap-some g [] h = omega arith
