@@ -1,14 +1,13 @@
 -- `isImage` decides whether bytes are an image: exactly the bytes of the contents that they show, which are valid. Assumes bytes,
 -- or valid contents, where it says so.
-use mathlib.Core.Bool.{Bool, true, _&&_}
-use mathlib.Core.List.{List, [], _∷_, _++_, map}
-use mathlib.Core.Path.{_≡_, refl, sym, ap, _∙_, subst}
+use mathlib.Core.Bool.{true, _&&_}
+use mathlib.Core.List.{List}
+use mathlib.Core.Path.{_≡_, refl, ap, _∙_}
 use Prim.Native.Nat.{ℕ, zero, suc, _+_, _*_, _^_, _≤_, _<_}
-use native.Mathlib.Omega.{arith}
-use lib.Dec.{leb, ltb}
+use lib.Dec.{leb}
 use lib.ListN.{length, drop}
 use borrow.Author.Tests.{leb-true, le-leb}
-use Rattle.lists.specs.Lists.{All, nonzero, every, same, risesB, sortBy, upFrom}
+use Rattle.lists.specs.Lists.{All, nonzero, every, same, risesB, upFrom}
 use Rattle.lists.proofs.Tests.{nonzero-says, nonzero-when, and-left, and-right, and-both}
 use Rattle.lists.proofs.Keep.{all-map, all-both, all-always, all-mapped, all-append, every-says, every-when}
 use Rattle.lists.proofs.Membership.{same-says, same-when}
@@ -64,8 +63,8 @@ module _ (bytes : List ℕ) (passed : isImage bytes ≡ true) where
       record {
         order-right = and-left (tableOrder (readImage bytes .order)) _ passed;
         keys-right = all-both (λ k. 1 ≤ k) (λ k. k < 2 ^ 64) (readImage bytes .keys)
-        (all-map (λ k. nonzero k ≡ true) (λ k. 1 ≤ k) nonzero-says (readImage bytes .keys) (every-says nonzero (readImage bytes .keys) (and-left (every nonzero (readImage bytes .keys)) _ after-rising)))
-        (shown-sized bytes a);
+            (all-map (λ k. nonzero k ≡ true) (λ k. 1 ≤ k) nonzero-says (readImage bytes .keys) (every-says nonzero (readImage bytes .keys) (and-left (every nonzero (readImage bytes .keys)) _ after-rising)))
+            (shown-sized bytes a);
         keys-rise = rises-says (readImage bytes .keys) (and-left (risesB (readImage bytes .keys)) _ after-order);
         keys-fit = leb-true (length (readImage bytes .keys)) mostSlots (and-left (leb (length (readImage bytes .keys)) mostSlots) _ after-nonzero);
       }

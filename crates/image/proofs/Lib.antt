@@ -4,3 +4,4 @@ pub mod Records
 pub mod Lengths
 pub mod Reading
 pub mod Judging
+pub mod Fits

@@ -9,7 +9,7 @@ use native.Mathlib.Omega.{arith}
 use lib.Dec.{ltb}
 use lib.ListN.{length, drop, getD}
 use lib.Seq.{drop-at, drop-drop}
-use Rattle.lists.specs.Lists.{All, member, sortBy, upFrom}
+use Rattle.lists.specs.Lists.{All, member, sortBy}
 use Rattle.lists.proofs.Keep.{all-map, all-both, all-always}
 use Rattle.lists.proofs.Membership.{all-member}
 use Rattle.lists.proofs.Pairwise.{pairwise-map}

@@ -21,3 +21,5 @@ pub mod Precedence
 pub mod ImageOrder
 pub mod BlockRuns
 pub mod Weights
+pub mod BlockTurns
+pub mod Bounds
