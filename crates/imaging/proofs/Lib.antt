@@ -1,0 +1,3 @@
+-- Lemmas of writing an image over plain lists.
+pub mod Weights
+pub mod Ending

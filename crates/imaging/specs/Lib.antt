@@ -1,0 +1,3 @@
+-- The image from the columns of its keys, by index.
+pub mod Naming
+pub mod Parts

@@ -1,0 +1,4 @@
+// Writing the image of an order and keys.
+mod names;
+mod parts;
+mod runs;
