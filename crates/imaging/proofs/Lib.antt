@@ -1,3 +1,4 @@
 -- Lemmas of writing an image over plain lists.
 pub mod Weights
 pub mod Ending
+pub mod Nodes
