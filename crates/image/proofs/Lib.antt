@@ -1,1 +1,7 @@
 -- Laws of the image, one subject a file.
+pub mod Bytes
+pub mod Records
+pub mod Lengths
+pub mod Reading
+pub mod Judging
+pub mod Fits

@@ -55,11 +55,21 @@ module _ {A B : Type 0} (R : B → B → Type 0) (g : A → List B) where
   pairwise-flatMap [] h k = tt
   pairwise-flatMap (a ∷ vs) h k = related-append (g a) (flatMap g vs) (h .0) (pairwise-flatMap vs (h .1) (k .1)) (related-all (g a) vs (k .0))
 
--- as many parts as elements, and no part empty: no fewer elements than parts
+-- where no part is empty, there are no more parts than elements in all
 pub length-flatMap-some : {A B : Type 0} (g : A → List B) (vs : List A) → All (λ a. 0 < length (g a)) vs → length vs ≤ length (flatMap g vs)
 unfolding flatMap
 length-flatMap-some g [] h = omega arith
 length-flatMap-some g (a ∷ vs) h = omega (arith, length-flatMap-some g vs (h .1), h .0, length-append (g a) (flatMap g vs))
+
+-- a part is no longer than all of them
+pub length-flatMap-part : {A B : Type 0} (g : A → List B) (vs : List A) → All (λ a. length (g a) ≤ length (flatMap g vs)) vs
+unfolding flatMap
+length-flatMap-part g [] = tt
+length-flatMap-part g (a ∷ vs) =
+    let both = length-append (g a) (flatMap g vs) in (
+      omega arith,
+      all-map (λ b. length (g b) ≤ length (flatMap g vs)) (λ b. length (g b) ≤ length (g a ++ flatMap g vs)) (λ b h. omega arith) vs (length-flatMap-part g vs),
+    )
 
 pub flatMap-mapped : {A B C : Type 0} (g : B → List C) (f : A → B) (xs : List A) → flatMap g (map f xs) ≡ flatMap (λ x. g (f x)) xs
 unfolding flatMap
