@@ -2,3 +2,4 @@
 pub mod Weights
 pub mod Ending
 pub mod Nodes
+pub mod Passing

@@ -42,11 +42,10 @@ module _ (n root : ℕ) (rank leader : List ℕ) (ranked : Ranked n root rank le
       let few = ranked .few in
       by-test (eqb (suc i) root) (λ e. rw e (omega arith)) (λ e. rw e (omega arith))
 
-  pub leader-bound : leaderAt root leader i ≤ mostSlots
+  pub leader-bound : leaderAt root leader i ≤ n
   unfolding leaderAt
   leader-bound =
       let low = ranked .leader-low i h in
-      let few = ranked .few in
       let within = ranked .root-within in
       by-test (eqb (suc i) root) (λ e. rw e (omega arith)) (λ e. rw e (omega arith))
 

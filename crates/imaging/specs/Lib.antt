@@ -1,3 +1,4 @@
 -- The image from the columns of its keys, by index.
 pub mod Naming
 pub mod Parts
+pub mod Arranged

@@ -19,7 +19,7 @@ leaderAt root leader i = cond (eqb (suc i) root) root (getD leader i 0)
 
 -- The weight of a block's name: greater where the level is higher, then where the leader is less.
 abbrev pub nameWeight : ℕ → ℕ → ℕ
-nameWeight level leader = level * suc mostSlots + (mostSlots - leader)
+nameWeight level leader = suc mostSlots * level + (mostSlots - leader)
 
 -- The weights of the blocks that hold the first n keys, one for each key.
 unfoldable pub blockWeight : ℕ → List ℕ → List ℕ → ℕ → ℕ

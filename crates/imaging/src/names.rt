@@ -37,7 +37,7 @@ fn block_weight(n: usize, root: u64, rank: &[u64], leader: &[u64], i: usize) -> 
     requires { ⌜ i < n ⌝ }
     ensures { λ r. ⌜ r ≡ blockWeight root (now (rank .entry)) (now (leader .entry)) i ⌝ }
 {
-    level_at(root, rank, i) * POSITIONS + (LAST - leader_at(root, leader, i))
+    POSITIONS * level_at(root, rank, i) + (LAST - leader_at(root, leader, i))
 }
 
 // Write at the start of `weights` the weight of the block that holds each key.

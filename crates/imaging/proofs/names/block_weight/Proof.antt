@@ -25,12 +25,12 @@ leader-at-requires c κs = search needs
 sub-result : tie.Need-sub-result
 sub-result c =
     let start = c .before .before .before .before in
-    omega (arith, leader-bound (start .args .n) (start .args .root) (start .args .rank .now) (start .args .leader .now) (start .pre .0) (start .args .i) (start .pre .1))
+    omega (arith, start .pre .0 .few, leader-bound (start .args .n) (start .args .root) (start .args .rank .now) (start .args .leader .now) (start .pre .0) (start .args .i) (start .pre .1))
 
 add-result : tie.Need-add-result
 add-result c =
     let start = c .before .before .before .before in
-    omega (arith, level-bound (start .args .n) (start .args .root) (start .args .rank .now) (start .args .leader .now) (start .pre .0) (start .args .i) (start .pre .1), leader-bound (start .args .n) (start .args .root) (start .args .rank .now) (start .args .leader .now) (start .pre .0) (start .args .i) (start .pre .1))
+    omega (arith, level-bound (start .args .n) (start .args .root) (start .args .rank .now) (start .args .leader .now) (start .pre .0) (start .args .i) (start .pre .1), start .pre .0 .few, leader-bound (start .args .n) (start .args .root) (start .args .rank .now) (start .args .leader .now) (start .pre .0) (start .args .i) (start .pre .1))
 
 returns : tie.Need-returns
 returns c =
