@@ -3,3 +3,5 @@ pub mod Weights
 pub mod Ending
 pub mod Nodes
 pub mod Passing
+pub mod Whole
+pub mod Arranging

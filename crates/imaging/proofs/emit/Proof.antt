@@ -1,3 +1,10 @@
+-- `imaging::emit` meets its contract. Assumes nothing.
+use mathlib.Core.Path.{_≡_, sym, subst}
+use Prim.Native.Nat.{ℕ, _<_, _≤_}
+use native.Mathlib.Omega.{arith}
+use lib.ListN.{length}
+use Rattle.lists.specs.Lists.{All}
+use Rattle.imaging.proofs.Whole.{image-at-length, blocks-few, blocks-fit, image-written, written-not, written-whole}
 use borrow.Author.Needs.{needs}
 use Rattle.imaging.proofs.emit.Statement.{statement}
 use Rattle.imaging.proofs.emit.Tie as tie
@@ -8,49 +15,65 @@ use Rattle.imaging.proofs.parts.put_blocks.Reads as put-blocks-reads
 use Rattle.imaging.proofs.runs.count_runs.Reads as count-runs-reads
 use Rattle.records.proofs.put_header.Reads as put-header-reads
 
--- src/lib.rt:76:9
 count-runs-requires : tie.Need-count-runs-requires
-count-runs-requires c κs = ?
+count-runs-requires c κs =
+    let start = c .before .before .before .before .before .before .before .before .before in
+    subst (λ (n : ℕ). All (λ i. i < n) (start .args .sorted .now)) (sym (start .pre .1 .1 .0)) (start .pre .1 .1 .2)
 
--- src/lib.rt:77:31
 mul-size : tie.Need-mul-size
-mul-size c = ?
+mul-size c =
+    let start = c .before .before .before .before .before .before .before .before .before .before in
+    let counted = c .count-runs in
+    let few = start .pre .1 .0 .few in
+    omega (arith, blocks-few (start .args .order) (start .args .keys .now) (start .args .root) (record { left = start .args .left .now; right = start .args .right .now; leader = start .args .leader .now; rank = start .args .rank .now; count = start .args .count .now }) (start .args .weights .now) (start .args .sorted .now) (counted .result) (counted .ensures) (start .pre .1 .1 .1))
 
--- src/lib.rt:77:16
 add-size : tie.Need-add-size
-add-size c = ?
+add-size c =
+    let start = c .before .before .before .before .before .before .before .before .before .before in
+    let counted = c .count-runs in
+    let few = start .pre .1 .0 .few in
+    omega (arith, blocks-few (start .args .order) (start .args .keys .now) (start .args .root) (record { left = start .args .left .now; right = start .args .right .now; leader = start .args .leader .now; rank = start .args .rank .now; count = start .args .count .now }) (start .args .weights .now) (start .args .sorted .now) (counted .result) (counted .ensures) (start .pre .1 .1 .1))
 
--- src/lib.rt:77:54
 mul-size-2 : tie.Need-mul-size-2
 mul-size-2 c = search needs
 
--- src/lib.rt:77:16
 add-size-2 : tie.Need-add-size-2
-add-size-2 c = ?
+add-size-2 c =
+    let start = c .before .before .before .before .before .before .before .before .before .before in
+    let counted = c .count-runs in
+    let few = start .pre .1 .0 .few in
+    omega (arith, blocks-few (start .args .order) (start .args .keys .now) (start .args .root) (record { left = start .args .left .now; right = start .args .right .now; leader = start .args .leader .now; rank = start .args .rank .now; count = start .args .count .now }) (start .args .weights .now) (start .args .sorted .now) (counted .result) (counted .ensures) (start .pre .1 .1 .1))
 
--- src/lib.rt:79:9
 returns : tie.Need-returns
-returns c = ?
+returns c =
+    let start = c .before .before .before .before .before .before .before .before .before .before .before in
+    let counted = c .before .count-runs in
+    let size = image-at-length (start .args .order) (start .args .keys .now) (start .args .root) (record { left = start .args .left .now; right = start .args .right .now; leader = start .args .leader .now; rank = start .args .rank .now; count = start .args .count .now }) (start .args .weights .now) (start .args .sorted .now) (counted .result) (counted .ensures) (start .pre .1 .1 .1) in
+    (size, written-not _ _ _ size (c .if1 .taken))
 
--- src/lib.rt:81:9
 key-at-requires : tie.Need-key-at-requires
 key-at-requires c κs = search needs
 
--- src/lib.rt:82:5
 put-header-requires : tie.Need-put-header-requires
 put-header-requires c κs = search needs
 
--- src/lib.rt:83:5
 put-blocks-requires : tie.Need-put-blocks-requires
-put-blocks-requires c κs = ?
+put-blocks-requires c κs =
+    let start = c .before .before .before .before .before .before .before .before .before .before .before .before .before .before .before .before .before in
+    let counted = c .before .before .before .before .before .before .before .count-runs in
+    let size = c .before .before .output .given in
+    (start .pre .0, (start .pre .1 .0, ((start .pre .1 .1 .0, start .pre .1 .1 .2), omega (arith, blocks-fit (start .args .order) (start .args .keys .now) (start .args .root) (record { left = start .args .left .now; right = start .args .right .now; leader = start .args .leader .now; rank = start .args .rank .now; count = start .args .count .now }) (start .args .weights .now) (start .args .sorted .now) (counted .result) (counted .ensures) (start .pre .1 .1 .1) (length (start .args .output .now)) (c .before .before .before .before .before .before .if1 .left)))))
 
--- src/lib.rt:57:1
 same-length : tie.Need-same-length
 same-length c = search needs
 
--- src/lib.rt:57:1
 returns-2 : tie.Need-returns-2
-returns-2 c = ?
+returns-2 c =
+    let start = c .before .before .before .before .before .before .before .before .before .before .before .before .before .before .before .before .before .before .before .before in
+    let counted = c .before .before .before .before .before .before .before .before .before .before .count-runs in
+    let size = image-at-length (start .args .order) (start .args .keys .now) (start .args .root) (record { left = start .args .left .now; right = start .args .right .now; leader = start .args .leader .now; rank = start .args .rank .now; count = start .args .count .now }) (start .args .weights .now) (start .args .sorted .now) (counted .result) (counted .ensures) (start .pre .1 .1 .1) in
+    let room = c .before .before .before .before .before .before .before .before .before .if1 .left in
+    (size, written-whole (start .args .output .now) _ _ _ size room (image-written (start .args .order) (start .args .keys .now) (start .args .root) (record { left = start .args .left .now; right = start .args .right .now; leader = start .args .leader .now; rank = start .args .rank .now; count = start .args .count .now }) (start .args .weights .now) (start .args .sorted .now) (counted .result) (counted .ensures) (start .pre .1 .1 .1) (start .args .output .now) _ _ _ (c .before .before .before .before .before .before .before .before .key-at .ensures) room (c .before .before .before .before .before .before .put-header .ensures) (c .before .before .put-blocks .ensures)))
 
 pub emit-spec : {M : Type 1} → statement M
 emit-spec =
