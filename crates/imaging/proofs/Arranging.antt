@@ -15,7 +15,9 @@ use Rattle.treap.specs.Treap.{top, leftLink, rightLink}
 use Rattle.treap.specs.Levels
 use Rattle.structure.proofs.Bounds.{rank-at-most}
 use Rattle.columns.specs.Positions.{positions, weightAt}
+use Rattle.columns.specs.Columns.{leftColumn, rightColumn, rankColumn, countColumn, leaderColumn}
 use Rattle.columns.proofs.Filled.{column-length, column-at}
+use Rattle.encode.proofs.Fresh.{Right}
 use Rattle.assemble.specs.Assemble.{Keys, Filled}
 use Rattle.assemble.proofs.Preparing.{room, root-low, left-low, right-low, leader-low, many-weights}
 use Rattle.imaging.specs.Naming.{blockWeight, blockWeights, Ranked}
@@ -69,6 +71,20 @@ module _ (order : ℕ) (ks : List ℕ) (right-keys : Keys order ks) (left right 
         left-within = low left lefts (filled .lefts) (left-low ws);
         right-within = low right rights (filled .rights) (right-low ws);
       }
+
+  -- the columns, with the number of keys for that of the weights
+  pub columns-right : Right order ks (record { left = left; right = right; leader = lead; rank = rank; count = count })
+  columns-right =
+      record {
+        lefts = over left (leftColumn ws) (filled .lefts);
+        rights = over right (rightColumn ws) (filled .rights);
+        leaders = over lead (leaderColumn order ws) (filled .leaders);
+        ranks = over rank (rankColumn order ws) (filled .ranks);
+        counts = over count (countColumn order ws) (filled .counts);
+      }
+    where
+      over : (column : List ℕ) (g : ℕ → List ℕ) → take m column ≡ g m → take (length ks) column ≡ g (length ks)
+      over column g e = subst (λ (k : ℕ). take k column ≡ g k) as-many e
 
 -- ---- what the parts yield together
 module _ (order : ℕ) (ks weights : List ℕ) (weights-are : take (length ks) weights ≡ map priorityOf ks) where

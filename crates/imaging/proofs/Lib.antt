@@ -5,3 +5,6 @@ pub mod Nodes
 pub mod Passing
 pub mod Whole
 pub mod Arranging
+pub mod RunsRenamed
+pub mod ByIndex
+pub mod Connected

@@ -1,3 +1,10 @@
+-- `imaging::write` meets its contract. Assumes nothing.
+use mathlib.Core.Path.{_≡_, sym, ap, _∙_}
+use native.Mathlib.Omega.{arith}
+use lib.ListN.{length}
+use Rattle.imaging.specs.Parts.{writtenTo}
+use Rattle.imaging.proofs.Arranging.{ranked, listed, as-many-weights, as-many-sorted, sorted-within}
+use Rattle.imaging.proofs.Connected.{arranged-image}
 use borrow.Author.Needs.{needs}
 use Rattle.imaging.proofs.write.Statement.{statement}
 use Rattle.imaging.proofs.write.Tie as tie
@@ -6,69 +13,72 @@ use Rattle.imaging.proofs.write.Lts as lts
 use Rattle.imaging.proofs.arrange.Reads as arrange-reads
 use Rattle.imaging.proofs.emit.Reads as emit-reads
 
--- src/lib.rt:122:9
 arrange-requires : tie.Need-arrange-requires
 arrange-requires c κs = search needs
 
--- src/lib.rt:143:9
 slice-reshare-prefix-emit : tie.Need-slice-reshare-prefix-emit
-slice-reshare-prefix-emit c = ?
+slice-reshare-prefix-emit c =
+    let start = c .before .before .before .before .before .before .before .before .before .before .before .before .before .before .before .before .before .before .before .before .before .before .before .before .before .before .before .before .before .before .before .before .before .before .before .before .before .before .before .before in
+    let a = c .before .before .before .before .before .before .before .before .before .before .before .before .before .before .before .before .before .before .before .before .before .arrange in
+    omega (arith, start .pre .1 .0, c .before .before .before .before .before .before .before .before .before .before .before .before .before .before .before .before .before .before .before .before .weights .given)
 
--- src/lib.rt:143:9
 slice-aggregate-emit : tie.Need-slice-aggregate-emit
-slice-aggregate-emit c = ?
+slice-aggregate-emit c =
+    let start = c .before .before .before .before .before .before .before .before .before .before .before .before .before .before .before .before .before .before .before .before .before .before .before .before .before .before .before .before .before .before .before .before .before .before .before .before .before .before .before .before .before in
+    let a = c .before .before .before .before .before .before .before .before .before .before .before .before .before .before .before .before .before .before .before .before .before .before .arrange in
+    sym (as-many-weights (start .args .order) (start .args .keys .now) (a .last .1 .1 .0) (a .last .1 .1 .1 .0) (a .last .1 .1 .1 .1 .0) (a .last .1 .1 .1 .1 .1 .0) (a .last .1 .1 .1 .1 .1 .1 .0) (a .last .1 .1 .1 .1 .1 .1 .1 .0) (a .last .1 .1 .1 .1 .1 .1 .1 .1 .0) (a .result) (a .ensures))
 
--- src/lib.rt:144:9
 slice-reshare-prefix-emit-2 : tie.Need-slice-reshare-prefix-emit-2
-slice-reshare-prefix-emit-2 c = ?
+slice-reshare-prefix-emit-2 c =
+    let start = c .before .before .before .before .before .before .before .before .before .before .before .before .before .before .before .before .before .before .before .before .before .before .before .before .before .before .before .before .before .before .before .before .before .before .before .before .before .before .before .before .before in
+    let a = c .before .before .before .before .before .before .before .before .before .before .before .before .before .before .before .before .before .before .before .before .before .before .arrange in
+    omega (arith, start .pre .1 .0, c .before .before .before .before .before .before .before .before .before .before .before .before .before .before .before .before .before .before .before .sorted .given)
 
--- src/lib.rt:144:9
 slice-aggregate-emit-2 : tie.Need-slice-aggregate-emit-2
-slice-aggregate-emit-2 c = ?
+slice-aggregate-emit-2 c =
+    let start = c .before .before .before .before .before .before .before .before .before .before .before .before .before .before .before .before .before .before .before .before .before .before .before .before .before .before .before .before .before .before .before .before .before .before .before .before .before .before .before .before .before .before in
+    let a = c .before .before .before .before .before .before .before .before .before .before .before .before .before .before .before .before .before .before .before .before .before .before .before .arrange in
+    sym (as-many-sorted (start .args .order) (start .args .keys .now) (a .last .1 .1 .0) (a .last .1 .1 .1 .0) (a .last .1 .1 .1 .1 .0) (a .last .1 .1 .1 .1 .1 .0) (a .last .1 .1 .1 .1 .1 .1 .0) (a .last .1 .1 .1 .1 .1 .1 .1 .0) (a .last .1 .1 .1 .1 .1 .1 .1 .1 .0) (a .result) (a .ensures))
 
--- src/lib.rt:134:5
 emit-requires : tie.Need-emit-requires
-emit-requires c κs = ?
+emit-requires c κs =
+    let start = c .before .before .before .before .before .before .before .before .before .before .before .before .before .before .before .before .before .before .before .before .before .before .before .before .before .before .before .before .before .before .before .before .before .before .before .before .before .before .before .before .before .before .before in
+    let a = c .before .before .before .before .before .before .before .before .before .before .before .before .before .before .before .before .before .before .before .before .before .before .before .before .arrange in
+    (listed (start .args .order) (start .args .keys .now) (start .pre .0) (a .last .1 .1 .1 .1 .0) (a .last .1 .1 .1 .1 .1 .0) (a .last .1 .1 .1 .1 .1 .1 .0) (a .last .1 .1 .1 .1 .1 .1 .1 .0) (a .last .1 .1 .1 .1 .1 .1 .1 .1 .0) (a .ensures .filled), (ranked (start .args .order) (start .args .keys .now) (start .pre .0) (a .last .1 .1 .1 .1 .0) (a .last .1 .1 .1 .1 .1 .0) (a .last .1 .1 .1 .1 .1 .1 .0) (a .last .1 .1 .1 .1 .1 .1 .1 .0) (a .last .1 .1 .1 .1 .1 .1 .1 .1 .0) (a .ensures .filled) (a .result) (a .ensures .root-is), (as-many-weights (start .args .order) (start .args .keys .now) (a .last .1 .1 .0) (a .last .1 .1 .1 .0) (a .last .1 .1 .1 .1 .0) (a .last .1 .1 .1 .1 .1 .0) (a .last .1 .1 .1 .1 .1 .1 .0) (a .last .1 .1 .1 .1 .1 .1 .1 .0) (a .last .1 .1 .1 .1 .1 .1 .1 .1 .0) (a .result) (a .ensures), as-many-sorted (start .args .order) (start .args .keys .now) (a .last .1 .1 .0) (a .last .1 .1 .1 .0) (a .last .1 .1 .1 .1 .0) (a .last .1 .1 .1 .1 .1 .0) (a .last .1 .1 .1 .1 .1 .1 .0) (a .last .1 .1 .1 .1 .1 .1 .1 .0) (a .last .1 .1 .1 .1 .1 .1 .1 .1 .0) (a .result) (a .ensures), sorted-within (start .args .order) (start .args .keys .now) (a .last .1 .1 .0) (a .last .1 .1 .1 .0) (a .last .1 .1 .1 .1 .0) (a .last .1 .1 .1 .1 .1 .0) (a .last .1 .1 .1 .1 .1 .1 .0) (a .last .1 .1 .1 .1 .1 .1 .1 .0) (a .last .1 .1 .1 .1 .1 .1 .1 .1 .0) (a .result) (a .ensures))))
 
--- src/lib.rt:101:1
 same-length : tie.Need-same-length
 same-length c = search needs
 
--- src/lib.rt:101:1
 same-length-2 : tie.Need-same-length-2
 same-length-2 c = search needs
 
--- src/lib.rt:101:1
 same-length-3 : tie.Need-same-length-3
 same-length-3 c = search needs
 
--- src/lib.rt:101:1
 same-length-4 : tie.Need-same-length-4
 same-length-4 c = search needs
 
--- src/lib.rt:101:1
 same-length-5 : tie.Need-same-length-5
 same-length-5 c = search needs
 
--- src/lib.rt:101:1
 same-length-6 : tie.Need-same-length-6
 same-length-6 c = search needs
 
--- src/lib.rt:101:1
 same-length-7 : tie.Need-same-length-7
 same-length-7 c = search needs
 
--- src/lib.rt:101:1
 same-length-8 : tie.Need-same-length-8
 same-length-8 c = search needs
 
--- src/lib.rt:101:1
 same-length-9 : tie.Need-same-length-9
 same-length-9 c = search needs
 
--- src/lib.rt:101:1
 returns : tie.Need-returns
-returns c = ?
+returns c =
+    let start = c .before .before .before .before .before .before .before .before .before .before .before .before .before .before .before .before .before .before .before .before .before .before .before .before .before .before .before .before .before .before .before .before .before .before .before .before .before .before .before .before .before .before .before .before .before .before in
+    let a = c .before .before .before .before .before .before .before .before .before .before .before .before .before .before .before .before .before .before .before .before .before .before .before .before .before .before .before .arrange in
+    let e = arranged-image (start .args .order) (start .args .keys .now) (a .last .1 .1 .0) (a .last .1 .1 .1 .0) (a .last .1 .1 .1 .1 .0) (a .last .1 .1 .1 .1 .1 .0) (a .last .1 .1 .1 .1 .1 .1 .0) (a .last .1 .1 .1 .1 .1 .1 .1 .0) (a .last .1 .1 .1 .1 .1 .1 .1 .1 .0) (a .result) (start .pre .0) (a .ensures) in
+    (c .before .before .emit .ensures .0 ∙ ap length e, c .before .before .emit .ensures .1 ∙ ap (writtenTo (start .args .output .now)) e)
 
 pub write-spec : {M : Type 1} → statement M
 write-spec =
