@@ -1,26 +1,25 @@
 -- The image from the columns is the image of the order and the keys. Assumes an order of at least 2, rising keys, none of them zero,
 -- and columns as their definitions say.
 use mathlib.Core.List.{List, [], _∷_, _++_, map, flatMap}
-use mathlib.Core.Path.{_≡_, refl, sym, ap, ap₂, _∙_, subst}
-use Prim.Native.Nat.{ℕ, zero, suc, _<_, _≤_}
+use mathlib.Core.Path.{_≡_, sym, ap, ap₂, _∙_, subst}
+use Prim.Native.Nat.{ℕ, _<_, _≤_}
 use native.Mathlib.Omega.{arith}
-use lib.ListN.{length, getD, take, length-map}
-use Rattle.lists.specs.Lists.{All, Rising, runs, sortBy}
+use lib.ListN.{length, take, length-map}
+use Rattle.lists.specs.Lists.{All, Rising, runs}
 use Rattle.lists.proofs.Keep.{all-map}
 use Rattle.lists.proofs.FlatMap.{flatMap-same, flatMap-mapped}
 use Rattle.priority.specs.Priority.{priorityOf}
 use Rattle.sorting.specs.ByWeight.{byWeight}
 use Rattle.sorting.proofs.ByWeight.{byWeight-within}
 use Rattle.treap.specs.Treap.{top}
-use Rattle.treap.specs.Blocks.{Block, blocks}
+use Rattle.treap.specs.Blocks.{blocks}
 use Rattle.treap.specs.Image.{headerRecord, blockRecord, nodeOf, blockPart, image}
-use Rattle.structure.proofs.Blocks.{blockLevel}
-use Rattle.structure.proofs.ImageOrder.{blockLeader, before, sameBlock}
+use Rattle.structure.proofs.ImageOrder.{sameBlock}
 use Rattle.structure.proofs.BlockRuns.{blockFrom, blocks-are-runs}
 use Rattle.columns.specs.Positions.{positions, weightAt}
 use Rattle.encode.specs.Encode.{Columns, keyAt}
 use Rattle.encode.proofs.Fresh.{Right}
-use Rattle.assemble.specs.Assemble.{Keys, Filled}
+use Rattle.assemble.specs.Assemble.{Keys}
 use Rattle.imaging.specs.Naming.{levelAt, leaderAt, blockWeights, sameWeight, Ranked}
 use Rattle.imaging.specs.Parts.{nodeAt, blockAt, blocksAt, imageAt}
 use Rattle.imaging.specs.Arranged.{Arranged}

@@ -4,6 +4,7 @@ pub mod Ending
 pub mod Nodes
 pub mod Passing
 pub mod Whole
+pub mod Room
 pub mod Arranging
 pub mod RunsRenamed
 pub mod ByIndex

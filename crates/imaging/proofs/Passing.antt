@@ -1,18 +1,16 @@
 -- The parts of the blocks, one after the other: the invariant of `put_blocks`, its steps and its end; and the length of an image.
 -- Assumes nothing.
-use mathlib.Core.Bool.{Bool}
-use mathlib.Core.List.{List, [], _∷_, _++_, flatMap, append-nil, append-assoc}
+use mathlib.Core.List.{List, [], _++_, flatMap, append-nil, append-assoc}
 use mathlib.Core.Path.{_≡_, refl, sym, ap, _∙_}
-use Prim.Native.Nat.{ℕ, zero, suc, _+_, _*_, _-_, _<_, _≤_}
+use Prim.Native.Nat.{ℕ, _+_, _*_, _-_, _≤_}
 use native.Mathlib.Omega.{arith}
-use lib.ListN.{length, getD, drop, length-append, drop-of-length-le}
+use lib.ListN.{length, drop, length-append, drop-of-length-le}
 use lib.Seq.{slice, length-slice}
-use Rattle.lists.specs.Lists.{overwrite, runs}
+use Rattle.lists.specs.Lists.{overwrite}
 use Rattle.lists.proofs.Overwrite.{overwrite-none, overwrite-length}
 use Rattle.lists.proofs.Parts.{overwrite-next}
 use Rattle.image.specs.Layout.{headerBytes, blockBytes, nodeBytes}
 use Rattle.encode.specs.Encode.{Columns}
-use Rattle.imaging.specs.Naming.{sameWeight}
 use Rattle.imaging.specs.Parts.{blockAt, blocksAt, RunEnds}
 use Rattle.imaging.proofs.Nodes.{block-at-length}
 

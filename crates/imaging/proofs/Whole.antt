@@ -1,12 +1,10 @@
--- The whole image from its header and its blocks: its length, and that it is written where there is room for it. Assumes nothing.
+-- The whole image from its header and its blocks: its length, and that it is written once they are. Assumes nothing.
 use mathlib.Core.Bool.{Bool, true, false, cond}
 use mathlib.Core.List.{List, [], _∷_, _++_, flatMap}
-use mathlib.Core.Path.{_≡_, refl, sym, ap, ap₂, _∙_}
-use Prim.Native.Nat.{ℕ, zero, suc, _+_, _*_, _<_, _≤_}
+use mathlib.Core.Path.{_≡_, refl, ap, ap₂, _∙_}
+use Prim.Native.Nat.{ℕ, suc, _+_, _*_, _<_, _≤_}
 use native.Mathlib.Omega.{arith}
-use lib.Dec.{leb}
 use lib.ListN.{length, length-append}
-use borrow.Author.Tests.{le-leb, lt-leb}
 use Rattle.lists.specs.Lists.{overwrite, joinRun, runs}
 use Rattle.lists.proofs.Parts.{overwrite-next}
 use Rattle.treap.specs.Image.{headerRecord}
@@ -14,7 +12,7 @@ use Rattle.image.specs.Layout.{headerBytes, blockBytes, nodeBytes}
 use Rattle.encode.specs.Encode.{Columns, keyAt}
 use Rattle.records.proofs.Fields.{header-length}
 use Rattle.imaging.specs.Naming.{sameWeight}
-use Rattle.imaging.specs.Parts.{blockAt, blocksAt, imageAt, writtenTo}
+use Rattle.imaging.specs.Parts.{blockAt, blocksAt, imageAt}
 use Rattle.imaging.proofs.Nodes.{block-at-length}
 
 -- ---- runs: together they are the list, and they are no more than its elements
@@ -89,12 +87,3 @@ module _ (order : ℕ) (keys : List ℕ) (root : ℕ) (c : Columns) (weights sor
         ∙ ap (λ (xs : List ℕ). overwrite xs headerBytes rest) h
         ∙ overwrite-next 0 headerBytes head before (omega (arith, header-length order (length keys) blocks top)) (omega arith) rest (omega (arith, blocks-length))
         ∙ ap₂ (λ (b r : ℕ). overwrite before 0 (headerRecord order (length keys) b r ++ rest)) counted e
-
--- ---- what is written, by the test of the length
-pub written-not : (output bytes : List ℕ) (size : ℕ) → size ≡ length bytes → length output < size → output ≡ writtenTo output bytes
-unfolding writtenTo
-written-not output bytes size e h = rw (lt-leb (length bytes) (length output) (omega arith))
-
-pub written-whole : (before bytes output : List ℕ) (size : ℕ) → size ≡ length bytes → size ≤ length before → output ≡ overwrite before 0 bytes → output ≡ writtenTo before bytes
-unfolding writtenTo
-written-whole before bytes output size e h o = o ∙ rw (le-leb (length bytes) (length before) (omega arith))

@@ -1,12 +1,10 @@
 -- The bytes of an image from columns by index: a key's, a block's, and all of them. Assumes nothing.
-use mathlib.Core.Bool.{cond}
 use mathlib.Core.List.{List, _∷_, _++_, flatMap}
 use mathlib.Core.Path.{_≡_}
 use Prim.Native.Nat.{ℕ, _<_, _≤_}
-use lib.Dec.{leb}
 use lib.ListN.{length, getD, drop}
 use lib.Seq.{slice}
-use Rattle.lists.specs.Lists.{runs, overwrite}
+use Rattle.lists.specs.Lists.{runs}
 use Rattle.treap.specs.Image.{headerRecord, blockRecord, nodeRecord}
 use Rattle.encode.specs.Encode.{Columns, keyAt}
 use Rattle.imaging.specs.Naming.{levelAt, leaderAt, sameWeight}
@@ -30,10 +28,6 @@ blocksAt keys root c weights sorted = flatMap (blockAt keys root c) (runs (sameW
 unfoldable pub imageAt : ℕ → List ℕ → ℕ → Columns → List ℕ → List ℕ → List ℕ
 imageAt order keys root c weights sorted =
     headerRecord order (length keys) (length (runs (sameWeight weights) sorted)) (keyAt keys root) ++ blocksAt keys root c weights sorted
-
--- A list once bytes are written to its start, where it has room for them; else as it is.
-unfoldable pub writtenTo : List ℕ → List ℕ → List ℕ
-writtenTo output bytes = cond (leb (length bytes) (length output)) (overwrite output 0 bytes) output
 
 -- The run of one weight that begins at index `low` of the list ends before index `high`.
 pub record RunEnds (weights sorted : List ℕ) (low high : ℕ) : Type 0 where

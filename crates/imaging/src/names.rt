@@ -28,7 +28,11 @@ pub fn leader_at(root: u64, leader: &[u64], i: usize) -> u64
     requires { ⌜ i < length (now leader) ⌝ }
     ensures { λ r. ⌜ r ≡ leaderAt root (now (leader .entry)) i ⌝ }
 {
-    if i as u64 + 1 == root { root } else { leader[i] }
+    if i as u64 + 1 == root {
+        root
+    } else {
+        leader[i]
+    }
 }
 
 // The weight of that block.

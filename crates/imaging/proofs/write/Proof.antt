@@ -1,8 +1,8 @@
 -- `imaging::write` meets its contract. Assumes nothing.
-use mathlib.Core.Path.{_≡_, sym, ap, _∙_}
+use mathlib.Core.Path.{sym, ap, _∙_}
 use native.Mathlib.Omega.{arith}
 use lib.ListN.{length}
-use Rattle.imaging.specs.Parts.{writtenTo}
+use Rattle.imaging.specs.Written.{writtenTo}
 use Rattle.imaging.proofs.Arranging.{ranked, listed, as-many-weights, as-many-sorted, sorted-within}
 use Rattle.imaging.proofs.Connected.{arranged-image}
 use borrow.Author.Needs.{needs}

@@ -1,6 +1,6 @@
 -- `imaging::parts::put_blocks` meets its contract. The loop's invariant: the parts of the blocks before `low` are written.
 -- Assumes nothing.
-use mathlib.Core.Path.{_≡_, sym, subst}
+use mathlib.Core.Path.{sym, subst}
 use mathlib.Core.List.{List}
 use Prim.Native.Nat.{ℕ, _+_, _*_, _-_, _<_, _≤_}
 use native.Mathlib.Omega.{arith}

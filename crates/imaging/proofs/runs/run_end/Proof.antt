@@ -1,7 +1,6 @@
 -- `imaging::runs::run_end` meets its contract. The loop's invariant: the list has one weight from `low` up to `high`. Assumes nothing.
 use mathlib.Core.Path.{sym, _∙_}
 use Prim.Native.Nat.{_-_}
-use native.Mathlib.Omega.{arith}
 use lib.ListN.{length}
 use Rattle.imaging.proofs.Ending.{Running, running-first, running-more, ended-by-other, ended-by-end}
 use borrow.Author.Needs.{needs}

@@ -1,7 +1,7 @@
 -- `imaging::runs::weight_of` meets its contract. Assumes nothing.
 use Prim.Native.Nat.{_<_}
 use native.Mathlib.Omega.{arith}
-use lib.ListN.{length, getD}
+use lib.ListN.{length}
 use Rattle.lists.proofs.Keep.{all-at}
 use borrow.Author.Needs.{needs}
 use Rattle.imaging.proofs.runs.weight_of.Statement.{statement}
