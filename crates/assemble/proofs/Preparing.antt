@@ -53,18 +53,18 @@ in-order ws =
 
 -- ---- links and leaders are positions or zero
 module _ (ws : List ℕ) where
-  left-low : (i : ℕ) → i < length ws → leftLink (weightAt ws) (positions (length ws)) (suc i) ≤ length ws
+  pub left-low : (i : ℕ) → i < length ws → leftLink (weightAt ws) (positions (length ws)) (suc i) ≤ length ws
   unfolding leftLink
   left-low i h = child-within ws i (leftLink (weightAt ws) (positions (length ws)) (suc i)) h (inl refl)
 
-  right-low : (i : ℕ) → i < length ws → rightLink (weightAt ws) (positions (length ws)) (suc i) ≤ length ws
+  pub right-low : (i : ℕ) → i < length ws → rightLink (weightAt ws) (positions (length ws)) (suc i) ≤ length ws
   unfolding rightLink
   right-low i h = child-within ws i (rightLink (weightAt ws) (positions (length ws)) (suc i)) h (inr refl)
 
   position-low : (v : ℕ) → member v (positions (length ws)) ≡ true → v ≤ length ws
   position-low v m = let b = all-member (λ x. (1 ≤ x) × (x < 1 + length ws)) (positions (length ws)) v (upFrom-within 1 (length ws)) m in omega arith
 
-  leader-low : (order : ℕ) → 2 ≤ order → (i : ℕ) → i < length ws → leader order (weightAt ws) (positions (length ws)) (suc i) ≤ length ws
+  pub leader-low : (order : ℕ) → 2 ≤ order → (i : ℕ) → i < length ws → leader order (weightAt ws) (positions (length ws)) (suc i) ≤ length ws
   leader-low order wide i h = go (treap q is) refl
     where
       q : ℕ → ℕ

@@ -13,8 +13,8 @@ ghost use Rattle.columns.specs.Positions.{positions, weightAt, InOrder};
 ghost use Rattle.assemble.specs.Assemble.{Filled, Keys, Prepared};
 
 // Write at the start of `weights` the priorities of the keys, and at the start of `ranking` their positions, less one, by
-// falling priority. What `spare` then holds is left open.
-fn prioritize(keys: &[u64], weights: &mut [u64], ranking: &mut [u64], spare: &mut [u64])
+// falling priority. What `spare` then holds is left open. Internal to this library's crates.
+pub fn prioritize(keys: &[u64], weights: &mut [u64], ranking: &mut [u64], spare: &mut [u64])
     requires { ⌜ (length (now keys) ≤ length (now weights)) × (length (now keys) ≤ length (now ranking)) × (length (now keys) ≤ length (now spare)) ⌝ }
     ensures { λ _. ⌜ take (length (now (keys .entry))) (now (weights .exit)) ≡ map priorityOf (now (keys .entry)) ⌝ }
     ensures { λ _. ⌜ take (length (now (keys .entry))) (now (ranking .exit)) ≡ byWeight (map priorityOf (now (keys .entry))) ⌝ }
@@ -23,8 +23,8 @@ fn prioritize(keys: &[u64], weights: &mut [u64], ranking: &mut [u64], spare: &mu
     sorting::by_weight(weights, keys.len(), ranking, spare);
 }
 
-// Fill the columns of the positions of `weights`; the position of the root.
-fn fill(
+// Fill the columns of the positions of `weights`; the position of the root. Internal to this library's crates.
+pub fn fill(
     weights: &[u64],
     order: u64,
     ranking: &[u64],

@@ -64,13 +64,13 @@ module _ (order : ℕ) (wide : 2 ≤ order) (keys : List ℕ) (rising : Rising k
 
   module _ (c : Columns) (right : Right order keys c) where
     -- a link or leader of the key is the key of the position's
-    linked : (g : (ℕ → ℕ) → List ℕ → ℕ → ℕ) (column : List ℕ) → map (g priorityOf (map f is)) (map f is) ≡ map f (map (g q is) is) → take n column ≡ map (g q is) is
+    pub linked : (g : (ℕ → ℕ) → List ℕ → ℕ → ℕ) (column : List ℕ) → map (g priorityOf (map f is)) (map f is) ≡ map f (map (g q is) is) → take n column ≡ map (g q is) is
         → (i : ℕ) → i < n → g priorityOf keys (f (suc i)) ≡ f (getD column i 0)
     linked g column e t i h =
         of-position (g priorityOf keys) (λ j. f (g q is j)) (over-keys (g priorityOf) (map f (map (g q is) is)) e ∙ map-map f (g q is) is) i h
         ∙ ap f (sym (column-at (g q is) n column t i h))
 
-    numbered : (g : (ℕ → ℕ) → List ℕ → ℕ → ℕ) (column : List ℕ) → map (g priorityOf (map f is)) (map f is) ≡ map (g q is) is → take n column ≡ map (g q is) is
+    pub numbered : (g : (ℕ → ℕ) → List ℕ → ℕ → ℕ) (column : List ℕ) → map (g priorityOf (map f is)) (map f is) ≡ map (g q is) is → take n column ≡ map (g q is) is
         → (i : ℕ) → i < n → g priorityOf keys (f (suc i)) ≡ getD column i 0
     numbered g column e t i h =
         of-position (g priorityOf keys) (g q is) (over-keys (g priorityOf) (map (g q is) is) e) i h ∙ sym (column-at (g q is) n column t i h)

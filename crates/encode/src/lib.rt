@@ -18,8 +18,8 @@ use table::ROOT_WORD;
 use table::SIZE_WORD;
 use table::SLOT_WORDS;
 
-// The key at a position; 0 at position 0.
-fn key_at(keys: &[u64], position: u64) -> u64
+// The key at a position; 0 at position 0. Internal to this library's crates.
+pub fn key_at(keys: &[u64], position: u64) -> u64
     requires { ⌜ position ≤ length (now keys) ⌝ }
     ensures { λ r. ⌜ r ≡ keyAt (now (keys .entry)) position ⌝ }
 {

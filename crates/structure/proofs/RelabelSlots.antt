@@ -33,7 +33,7 @@ insert-renamed f b c x (y ∷ ys) h =
     pick true = refl
     pick false = refl
 
-sort-renamed : (f : ℕ → ℕ) (b c : ℕ → ℕ → Bool) (P : ℕ → Type 0) → ((x y : ℕ) → P x → P y → b (f x) (f y) ≡ c x y) → (xs : List ℕ) → All P xs → sortBy b (map f xs) ≡ map f (sortBy c xs)
+pub sort-renamed : (f : ℕ → ℕ) (b c : ℕ → ℕ → Bool) (P : ℕ → Type 0) → ((x y : ℕ) → P x → P y → b (f x) (f y) ≡ c x y) → (xs : List ℕ) → All P xs → sortBy b (map f xs) ≡ map f (sortBy c xs)
 sort-renamed f b c P e [] h = refl
 sort-renamed f b c P e (x ∷ xs) h =
     ap (insertBy b (f x)) (sort-renamed f b c P e xs (h .1))
