@@ -1,0 +1,4 @@
+-- Laws of digits, and of text written piece by piece.
+pub mod Decimal
+pub mod Spelling
+pub mod Pieces

@@ -1,0 +1,3 @@
+-- Numbers as text, and text in its place in an output.
+pub mod Digits
+pub mod Written
