@@ -1,4 +1,4 @@
--- Laws of `flatMap` with `keep` and `All`, and of `fallingFrom`. Assumes nothing.
+-- Laws of `flatMap` with `keep`, `All` and `Pairwise`, and of `fallingFrom`. Assumes nothing.
 use mathlib.Core.Bool.{Bool, true, false, cond, _||_, _&&_}
 use mathlib.Core.List.{List, [], _∷_, _++_, map, flatMap, append-nil, append-assoc}
 use mathlib.Core.Logic.{_⊎_, _≢_, inl, inr, ⊎-elim}
@@ -6,8 +6,9 @@ use mathlib.Core.Path.{_≡_, refl, sym, ap, ap₂, _∙_, subst}
 use Prim.Native.Nat.{ℕ, zero, suc, _+_, _<_, _≤_}
 use native.Mathlib.Omega.{arith}
 use lib.Dec.{eqb}
+use lib.ListN.{length, length-append}
 use borrow.Author.Tests.{eqb-true, eqb-false, ne-eqb}
-use Rattle.lists.specs.Lists.{consIf, keep, All, member, fallingFrom, Rising}
+use Rattle.lists.specs.Lists.{consIf, keep, All, Pairwise, member, fallingFrom, Rising}
 use Rattle.lists.proofs.Tests.{by-test, true-or-false, or-true-cases}
 use Rattle.lists.proofs.Keep.{all-map, all-mapped, all-append, keep-append, keep-none}
 
@@ -32,6 +33,34 @@ module _ {A B : Type 0} where
   flatMap-same g h [] e = refl
   flatMap-same g h (x ∷ xs) e = ap₂ (λ ys zs. ys ++ zs) (e .0) (flatMap-same g h xs (e .1))
 
+-- all elements of the one list stand in the relation to all of the other
+abbrev pub AllRelated : {B : Type 0} → (B → B → Type 0) → List B → List B → Type 0
+AllRelated R xs ys = All (λ x. All (R x) ys) xs
+
+module _ {A B : Type 0} (R : B → B → Type 0) (g : A → List B) where
+  related-append : (xs ys : List B) → Pairwise R xs → Pairwise R ys → AllRelated R xs ys → Pairwise R (xs ++ ys)
+  related-append [] ys h k l = k
+  related-append (x ∷ xs) ys h k l = (all-append (R x) xs ys (h .0) (l .0), related-append xs ys (h .1) k (l .1))
+
+  related-all : (xs : List B) (bs : List A) → All (λ b. AllRelated R xs (g b)) bs → AllRelated R xs (flatMap g bs)
+  related-all [] bs h = tt
+  related-all (x ∷ xs) bs h = (
+    all-flatMap (R x) g bs (all-map (λ b. AllRelated R (x ∷ xs) (g b)) (λ b. All (R x) (g b)) (λ b q. q .0) bs h),
+    related-all xs bs (all-map (λ b. AllRelated R (x ∷ xs) (g b)) (λ b. AllRelated R xs (g b)) (λ b q. q .1) bs h),
+  )
+
+  -- each part is in order, and each part comes before all later ones
+  pub pairwise-flatMap : (vs : List A) → All (λ a. Pairwise R (g a)) vs → Pairwise (λ a b. AllRelated R (g a) (g b)) vs → Pairwise R (flatMap g vs)
+  unfolding flatMap
+  pairwise-flatMap [] h k = tt
+  pairwise-flatMap (a ∷ vs) h k = related-append (g a) (flatMap g vs) (h .0) (pairwise-flatMap vs (h .1) (k .1)) (related-all (g a) vs (k .0))
+
+-- as many parts as elements, and no part empty: no fewer elements than parts
+pub length-flatMap-some : {A B : Type 0} (g : A → List B) (vs : List A) → All (λ a. 0 < length (g a)) vs → length vs ≤ length (flatMap g vs)
+unfolding flatMap
+length-flatMap-some g [] h = omega arith
+length-flatMap-some g (a ∷ vs) h = omega (arith, length-flatMap-some g vs (h .1), h .0, length-append (g a) (flatMap g vs))
+
 pub flatMap-mapped : {A B C : Type 0} (g : B → List C) (f : A → B) (xs : List A) → flatMap g (map f xs) ≡ flatMap (λ x. g (f x)) xs
 unfolding flatMap
 flatMap-mapped g f [] = refl
@@ -40,6 +69,10 @@ flatMap-mapped {C = C} g f (x ∷ xs) = ap (λ (ys : List C). g (f x) ++ ys) (fl
 pub falling-within : (n : ℕ) → All (λ i. (1 ≤ i) × (i ≤ n)) (fallingFrom n)
 falling-within zero = tt
 falling-within (suc n) = (omega arith, all-map (λ i. (1 ≤ i) × (i ≤ n)) (λ i. (1 ≤ i) × (i ≤ suc n)) (λ i h. omega arith) (fallingFrom n) (falling-within n))
+
+pub falling-falls : (n : ℕ) → Pairwise (λ i j. j < i) (fallingFrom n)
+falling-falls zero = tt
+falling-falls (suc n) = (all-map (λ i. (1 ≤ i) × (i ≤ n)) (λ i. i < suc n) (λ i h. omega arith) (fallingFrom n) (falling-within n), falling-falls n)
 
 module _ {B : Type 0} (g : ℕ → List B) where
   -- of the falling numbers below j none is j

@@ -14,3 +14,4 @@ pub mod Overwrite
 pub mod Parts
 pub mod Start
 pub mod Copying
+pub mod Runs

@@ -47,6 +47,17 @@ module _ {A : Type 0} where
   sortBy before [] = []
   sortBy before (x ∷ xs) = insertBy before x (sortBy before xs)
 
+  -- `x` in front of the first run where it is like that run's first, else as a run by itself.
+  abbrev pub joinRun : (A → A → Bool) → A → List (List A) → List (List A)
+  joinRun alike x [] = (x ∷ []) ∷ []
+  joinRun alike x ([] ∷ more) = (x ∷ []) ∷ more
+  joinRun alike x ((y ∷ run) ∷ more) = cond (alike x y) ((x ∷ y ∷ run) ∷ more) ((x ∷ []) ∷ (y ∷ run) ∷ more)
+
+  -- The list in its maximal runs of neighbours that are alike.
+  abbrev pub runs : (A → A → Bool) → List A → List (List A)
+  runs alike [] = []
+  runs alike (x ∷ xs) = joinRun alike x (runs alike xs)
+
   -- The list with the elements from index `at` on replaced by those of `new`.
   unfoldable pub overwrite : List A → ℕ → List A → List A
   overwrite old at new = take at old ++ (new ++ drop (at + length new) old)

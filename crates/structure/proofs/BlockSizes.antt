@@ -139,7 +139,7 @@ module _ (α : ℕ) (p : ℕ → ℕ) (wide : 2 ≤ α) (ks : List ℕ) (rising 
   block-size i v h m = omega (arith, taken-bound i v h m)
 
   -- ---- the root block: the root, and the keys that the block (root, k) would take
-  led-by-top : (x : ℕ) → member x ks ≡ true → suc (rank α p ks x) ≡ rootRank α p ks → leader α p ks x ≡ top p ks
+  pub led-by-top : (x : ℕ) → member x ks ≡ true → suc (rank α p ks x) ≡ rootRank α p ks → leader α p ks x ≡ top p ks
   unfolding rootRank
   led-by-top x m e =
       let leads = led α p ks wide rising x m (λ q. let same = ap (rank α p ks) q in omega arith) in

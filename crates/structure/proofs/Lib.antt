@@ -17,3 +17,6 @@ pub mod BlockTree
 pub mod SearchPath
 pub mod Relabel
 pub mod RelabelSlots
+pub mod Precedence
+pub mod ImageOrder
+pub mod BlockRuns

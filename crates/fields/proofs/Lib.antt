@@ -1,0 +1,3 @@
+-- Lemmas of fields over plain lists.
+pub mod Putting
+pub mod Getting

@@ -1,0 +1,83 @@
+-- Fields written one after the other make a record. Assumes nothing.
+use mathlib.Core.List.{List, [], _∷_, _++_}
+use mathlib.Core.Path.{_≡_, refl, ap, _∙_}
+use Prim.Native.Nat.{ℕ, suc, _+_, _≤_}
+use native.Mathlib.Numerals.{add-one}
+use native.Mathlib.Omega.{arith}
+use lib.ListN.{length, set}
+use Rattle.lists.specs.Lists.{overwrite}
+use Rattle.lists.proofs.Parts.{set-is, overwrite-more, overwrite-next}
+use Rattle.treap.specs.Image.{littleEndian, orderBytes, countBytes, keyBytes, headerMark, blockMark, nodeMark, headerRecord, blockRecord, nodeRecord}
+use Rattle.image.specs.Layout.{headerBytes, blockBytes, nodeBytes}
+
+-- the two bytes of a mark
+pub mark-written : (before : List ℕ) (at a b : ℕ) → at + 2 ≤ length before → set (set before at a) (at + 1) b ≡ overwrite before at (a ∷ b ∷ [])
+mark-written before at a b h =
+    ap (λ (xs : List ℕ). set xs (at + 1) b) (set-is at a before (omega arith))
+    ∙ overwrite-more at (at + 1) (a ∷ []) before (omega arith) (omega arith) b (omega arith)
+
+-- a field more, where the part written so far ends
+field-written : (before : List ℕ) (at : ℕ) (part output field next : List ℕ) (i : ℕ) → length part ≡ i → at + i + length field ≤ length before
+    → output ≡ overwrite before at part → next ≡ overwrite output (at + i) field → next ≡ overwrite before at (part ++ field)
+field-written before at part output field next i e h o n =
+    n ∙ ap (λ (xs : List ℕ). overwrite xs (at + i) field) o ∙ overwrite-next at (at + i) part before (omega arith) (omega arith) field h
+
+pub header-written : (before marked ordered sized counted output : List ℕ) (at order size blocks root : ℕ) → at + headerBytes ≤ length before
+    → marked ≡ overwrite before at headerMark
+    → ordered ≡ overwrite marked (at + 2) (littleEndian orderBytes order)
+    → sized ≡ overwrite ordered (at + 3) (littleEndian countBytes size)
+    → counted ≡ overwrite sized (at + 5) (littleEndian countBytes blocks)
+    → output ≡ overwrite counted (at + 7) (littleEndian keyBytes root)
+    → output ≡ overwrite before at (headerRecord order size blocks root)
+unfolding headerRecord
+header-written before marked ordered sized counted output at order size blocks root h m o s c r =
+    let part = headerMark ++ littleEndian orderBytes order in
+    let e = field-written before at headerMark marked (littleEndian orderBytes order) ordered 2 refl (omega arith) m o in
+    let f = field-written before at part ordered (littleEndian countBytes size) sized 3 refl (omega arith) e s in
+    let g = field-written before at (part ++ littleEndian countBytes size) sized (littleEndian countBytes blocks) counted 5 refl (omega arith) f c in
+    field-written before at (part ++ littleEndian countBytes size ++ littleEndian countBytes blocks) counted (littleEndian keyBytes root) output 7 refl (omega arith) g r
+
+pub block-written : (before marked led leveled output : List ℕ) (at leader level held : ℕ) → at + blockBytes ≤ length before
+    → marked ≡ overwrite before at blockMark
+    → led ≡ overwrite marked (at + 2) (littleEndian keyBytes leader)
+    → leveled ≡ overwrite led (at + 10) (littleEndian countBytes level)
+    → output ≡ overwrite leveled (at + 12) (littleEndian countBytes held)
+    → output ≡ overwrite before at (blockRecord leader level held)
+unfolding blockRecord
+block-written before marked led leveled output at leader level held h m l v n =
+    let part = blockMark ++ littleEndian keyBytes leader in
+    let e = field-written before at blockMark marked (littleEndian keyBytes leader) led 2 refl (omega arith) m l in
+    let f = field-written before at part led (littleEndian countBytes level) leveled 10 refl (omega arith) e v in
+    field-written before at (part ++ littleEndian countBytes level) leveled (littleEndian countBytes held) output 12 refl (omega arith) f n
+
+pub node-written : (before marked keyed lefted righted ranked output : List ℕ) (at key left right rank count : ℕ) → at + nodeBytes ≤ length before
+    → marked ≡ overwrite before at nodeMark
+    → keyed ≡ overwrite marked (at + 2) (littleEndian keyBytes key)
+    → lefted ≡ overwrite keyed (at + 10) (littleEndian keyBytes left)
+    → righted ≡ overwrite lefted (at + 18) (littleEndian keyBytes right)
+    → ranked ≡ overwrite righted (at + 26) (littleEndian countBytes rank)
+    → output ≡ overwrite ranked (at + 28) (littleEndian countBytes count)
+    → output ≡ overwrite before at (nodeRecord key left right rank count)
+unfolding nodeRecord
+node-written before marked keyed lefted righted ranked output at key left right rank count h m k l r a n =
+    let part = nodeMark ++ littleEndian keyBytes key in
+    let e = field-written before at nodeMark marked (littleEndian keyBytes key) keyed 2 refl (omega arith) m k in
+    let f = field-written before at part keyed (littleEndian keyBytes left) lefted 10 refl (omega arith) e l in
+    let part = part ++ littleEndian keyBytes left in
+    let g = field-written before at part lefted (littleEndian keyBytes right) righted 18 refl (omega arith) f r in
+    let part = part ++ littleEndian keyBytes right in
+    let i = field-written before at part righted (littleEndian countBytes rank) ranked 26 refl (omega arith) g a in
+    field-written before at (part ++ littleEndian countBytes rank) ranked (littleEndian countBytes count) output 28 refl (omega arith) i n
+
+-- ---- how long the records are
+pub header-length : (order size blocks root : ℕ) → length (headerRecord order size blocks root) ≡ headerBytes
+unfolding headerRecord
+header-length order size blocks root = refl
+
+pub block-length : (leader level held : ℕ) → length (blockRecord leader level held) ≡ blockBytes
+unfolding blockRecord
+block-length leader level held = refl
+
+pub node-length : (key left right rank count : ℕ) → length (nodeRecord key left right rank count) ≡ nodeBytes
+unfolding nodeRecord
+node-length key left right rank count = refl

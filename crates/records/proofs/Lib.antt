@@ -1,0 +1,2 @@
+-- Lemmas of records over plain lists.
+pub mod Fields
