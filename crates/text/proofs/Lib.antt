@@ -1,4 +1,5 @@
 -- Laws of digits, and of text written piece by piece.
+pub mod Examples
 pub mod Decimal
 pub mod Spelling
 pub mod Pieces

@@ -1,0 +1,2 @@
+-- The text that lists an image.
+pub mod Listing
