@@ -1,1 +1,4 @@
 -- Laws of the image, one subject a file.
+pub mod Bytes
+pub mod Records
+pub mod Lengths

@@ -61,6 +61,16 @@ unfolding flatMap
 length-flatMap-some g [] h = omega arith
 length-flatMap-some g (a ∷ vs) h = omega (arith, length-flatMap-some g vs (h .1), h .0, length-append (g a) (flatMap g vs))
 
+-- a part is no longer than all of them
+pub length-flatMap-part : {A B : Type 0} (g : A → List B) (vs : List A) → All (λ a. length (g a) ≤ length (flatMap g vs)) vs
+unfolding flatMap
+length-flatMap-part g [] = tt
+length-flatMap-part g (a ∷ vs) =
+    let both = length-append (g a) (flatMap g vs) in (
+      omega arith,
+      all-map (λ b. length (g b) ≤ length (flatMap g vs)) (λ b. length (g b) ≤ length (g a ++ flatMap g vs)) (λ b h. omega arith) vs (length-flatMap-part g vs),
+    )
+
 pub flatMap-mapped : {A B C : Type 0} (g : B → List C) (f : A → B) (xs : List A) → flatMap g (map f xs) ≡ flatMap (λ x. g (f x)) xs
 unfolding flatMap
 flatMap-mapped g f [] = refl
