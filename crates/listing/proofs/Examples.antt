@@ -8,7 +8,8 @@ use Rattle.treap.specs.Levels.{nextLevel, rank, count}
 use Rattle.treap.specs.Blocks.{rootRank, rootBlock, blocks, fill}
 use Rattle.text.specs.Ascii.{ascii}
 use Rattle.text.specs.Digits.{decimal, hexadecimal}
-use Rattle.listing.specs.Listing.{headerLine, blockLine, keyLine, keyLineOf, blockLines, listing, listingOf}
+use Rattle.lines.specs.Lines.{headerLine, blockLine, keyLine}
+use Rattle.listing.specs.Listing.{keyLineOf, blockLines, listing, listingOf}
 
 -- "For B's image .. it prints exactly", whatever the priority
 pub single : (p : ℕ → ℕ)

@@ -16,13 +16,14 @@ module _ {before : List ℕ} {at : ℕ} {text after : List ℕ} {end : ℕ} (fir
   written-size fits = ap length (first .holds) ∙ overwrite-length before at text fits
 
   -- the piece after it
-  pub written-then : {more last : List ℕ} {stop : ℕ} → Written after end more last stop → at + length text + length more ≤ length before
+  pub written-then : {more last : List ℕ} {stop : ℕ} → Written after end more last stop → at + length (text ++ more) ≤ length before
       → Written before at (text ++ more) last stop
   written-then {more} next fits =
       record {
         holds =
             next .holds ∙ ap (λ (l : List ℕ). overwrite l end more) (first .holds)
-            ∙ overwrite-next at end text before (sym (first .ends)) (let e = first .ends in omega arith) more (let e = first .ends in omega arith);
+            ∙ overwrite-next at end text before (sym (first .ends)) (let e = first .ends in omega (arith, length-append text more)) more
+            (let e = first .ends in omega (arith, length-append text more));
         ends = next .ends ∙ omega (arith, first .ends, length-append text more);
       }
 
@@ -57,3 +58,13 @@ module _ {before : List ℕ} {at : ℕ} {text output : List ℕ} {i : ℕ} (stat
 
   pub begun-all : length text ≤ i → Written before at text output (at + length text)
   begun-all h = record { holds = state .holds ∙ ap (overwrite before at) (take-all i text h); ends = refl }
+
+-- ---- room for the next piece, and for what comes before it
+pub front-fits : (at : ℕ) (text more : List ℕ) (room : ℕ) → at + length (text ++ more) ≤ room → at + length text ≤ room
+front-fits at text more room h = omega (arith, length-append text more)
+
+pub next-fits : {before : List ℕ} {at : ℕ} {text after : List ℕ} {end : ℕ} → Written before at text after end → (more : List ℕ)
+    → at + length (text ++ more) ≤ length before → end + length more ≤ length after
+next-fits {before} {at} {text} {after} {end} first more h =
+    let e = first .ends in
+    omega (arith, length-append text more, written-size first (front-fits at text more (length before) h))
