@@ -1,2 +1,4 @@
 -- Laws of the listing.
 pub mod Examples
+pub mod Filling
+pub mod Walking

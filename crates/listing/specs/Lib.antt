@@ -1,2 +1,3 @@
--- The text that lists an image.
+-- The text that lists an image, from what it holds and from its bytes.
 pub mod Listing
+pub mod Shown

@@ -3,3 +3,4 @@ pub mod Examples
 pub mod Decimal
 pub mod Spelling
 pub mod Pieces
+pub mod Ongoing
