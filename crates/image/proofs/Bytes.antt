@@ -2,7 +2,7 @@
 -- bytes that are put together from parts. Assumes nothing.
 use mathlib.Core.List.{List, [], _∷_, _++_}
 use mathlib.Core.Path.{_≡_, refl, sym, ap, ap₂, _∙_}
-use Prim.Native.Nat.{ℕ, zero, suc, _+_, _*_, _^_, _/_, _%_, _≤_, _<_}
+use Prim.Native.Nat.{ℕ, zero, suc, _+_, _^_, _/_, _≤_, _<_}
 use native.Mathlib.Nat.{mod-lt, mod-add-div, div-lt-iff-lt-mul, div-eq-of-lt, mod-eq-of-lt, add-mul-mod-self-left, add-mul-div-left, zero-add}
 use native.Mathlib.Omega.{arith}
 use lib.ListN.{length, take, drop, length-take, length-drop}
@@ -50,12 +50,12 @@ bytes-of-number (b ∷ bs) a =
     ∙ bytes-of-number bs (a .1))
 
 -- ---- fields
-all-take : (P : ℕ → Type 0) (n : ℕ) (xs : List ℕ) → All P xs → All P (take n xs)
+pub all-take : (P : ℕ → Type 0) (n : ℕ) (xs : List ℕ) → All P xs → All P (take n xs)
 all-take P zero xs h = tt
 all-take P (suc n) [] h = tt
 all-take P (suc n) (x ∷ xs) h = (h .0, all-take P n xs (h .1))
 
-all-drop : (P : ℕ → Type 0) (n : ℕ) (xs : List ℕ) → All P xs → All P (drop n xs)
+pub all-drop : (P : ℕ → Type 0) (n : ℕ) (xs : List ℕ) → All P xs → All P (drop n xs)
 all-drop P zero xs h = h
 all-drop P (suc n) [] h = tt
 all-drop P (suc n) (x ∷ xs) h = all-drop P n xs (h .1)

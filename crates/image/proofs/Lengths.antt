@@ -1,8 +1,7 @@
 -- How long the image is: 15 + 14·b + 30·n bytes, for n keys in b blocks. Assumes valid contents, where it says so.
-use mathlib.Core.Bool.{true}
-use mathlib.Core.List.{List, [], _∷_, _++_, flatMap}
-use mathlib.Core.Path.{_≡_, refl, sym, ap, _∙_}
-use Prim.Native.Nat.{ℕ, zero, suc, _+_, _*_, _≤_, _<_}
+use mathlib.Core.List.{List, [], _∷_, flatMap}
+use mathlib.Core.Path.{_≡_, refl}
+use Prim.Native.Nat.{ℕ, _+_, _*_, _≤_, _<_}
 use native.Mathlib.Omega.{arith}
 use lib.ListN.{length, length-append}
 use Rattle.lists.specs.Lists.{All}
@@ -17,7 +16,7 @@ use Rattle.treap.specs.Image.{headerRecord, blockRecord, nodeOf, blockPart, ima
 use Rattle.structure.proofs.ImageOrder.{held-total, blocks-few}
 use Rattle.table.specs.Layout.{mostSlots, leastOrder, greatestOrder}
 use Rattle.table.specs.Contents.{Contents, Valid, tableOrder}
-use Rattle.image.specs.Layout.{headerBytes, blockBytes, nodeBytes, imageBytes}
+use Rattle.image.specs.Layout.{blockBytes, nodeBytes, imageBytes}
 use Rattle.image.specs.Image.{imageOf}
 use Rattle.image.proofs.Bytes.{IsByte}
 use Rattle.image.proofs.Records.{header-length, block-length, node-length, header-bytes, block-bytes, node-bytes}

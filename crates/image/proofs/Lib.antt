@@ -2,3 +2,6 @@
 pub mod Bytes
 pub mod Records
 pub mod Lengths
+pub mod Reading
+pub mod Judging
+pub mod Fits

@@ -1,15 +1,15 @@
 -- The image's records: how long each is, that it is made of bytes, and what stands in the fields that a reader needs. Assumes of a
 -- number, where it says so, that it fits its field.
-use mathlib.Core.List.{List, [], _∷_, _++_}
-use mathlib.Core.Path.{_≡_, refl, sym, ap, _∙_}
-use Prim.Native.Nat.{ℕ, zero, suc, _+_, _*_, _^_, _≤_, _<_}
+use mathlib.Core.List.{List, _++_}
+use mathlib.Core.Path.{_≡_, refl}
+use Prim.Native.Nat.{ℕ, _+_, _^_, _<_}
 use native.Mathlib.Omega.{arith}
-use lib.ListN.{length, take, drop, length-append}
+use lib.ListN.{length, drop}
 use Rattle.lists.specs.Lists.{All}
 use Rattle.lists.proofs.Keep.{all-append}
 use Rattle.treap.specs.Image.{littleEndian, orderBytes, countBytes, keyBytes, headerMark, blockMark, nodeMark, headerRecord, blockRecord, nodeRecord}
 use Rattle.image.specs.Layout.{headerBytes, blockBytes, nodeBytes, orderAt, blocksAt, heldAt, keyAt}
-use Rattle.image.specs.Image.{numberOf, fieldAt}
+use Rattle.image.specs.Image.{fieldAt}
 use Rattle.image.proofs.Bytes.{IsByte, littleEndian-bytes, number-of-bytes}
 
 -- ---- the header

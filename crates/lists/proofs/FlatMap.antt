@@ -55,7 +55,7 @@ module _ {A B : Type 0} (R : B → B → Type 0) (g : A → List B) where
   pairwise-flatMap [] h k = tt
   pairwise-flatMap (a ∷ vs) h k = related-append (g a) (flatMap g vs) (h .0) (pairwise-flatMap vs (h .1) (k .1)) (related-all (g a) vs (k .0))
 
--- as many parts as elements, and no part empty: no fewer elements than parts
+-- where no part is empty, there are no more parts than elements in all
 pub length-flatMap-some : {A B : Type 0} (g : A → List B) (vs : List A) → All (λ a. 0 < length (g a)) vs → length vs ≤ length (flatMap g vs)
 unfolding flatMap
 length-flatMap-some g [] h = omega arith

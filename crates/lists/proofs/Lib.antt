@@ -15,3 +15,4 @@ pub mod Parts
 pub mod Start
 pub mod Copying
 pub mod Runs
+pub mod RunEnds

@@ -1,13 +1,13 @@
 -- The blocks are the runs of the keys in the image's order: neighbours whose blocks have the same name are in the same block.
 -- Assumes an order of at least 2 and rising keys.
-use mathlib.Core.Bool.{Bool, true, false}
-use mathlib.Core.List.{List, [], _∷_, _++_, map, flatMap}
-use mathlib.Core.Path.{_≡_, refl, sym, ap, ap₂, _∙_, subst}
-use Prim.Native.Nat.{ℕ, zero, suc, _<_, _≤_}
+use mathlib.Core.Bool.{true, false}
+use mathlib.Core.List.{List, [], _∷_, _++_, map}
+use mathlib.Core.Path.{_≡_, refl, sym, ap, ap₂, _∙_}
+use Prim.Native.Nat.{ℕ, _<_, _≤_}
 use native.Mathlib.Omega.{arith}
 use lib.ListN.{length, getD}
 use Rattle.lists.specs.Lists.{All, Pairwise, Rising, sortBy, runs}
-use Rattle.lists.proofs.Keep.{all-map, all-mapped, all-both, map-same}
+use Rattle.lists.proofs.Keep.{all-map, all-mapped, all-both}
 use Rattle.lists.proofs.Pairwise.{pairwise-map, pairwise-mapped}
 use Rattle.lists.proofs.FlatMap.{flatMap-mapped}
 use Rattle.lists.proofs.Runs.{Alike, Apart, AllApart, NotFirst, runs-of-parts, runs-next}

@@ -1,29 +1,27 @@
 -- The keys in the image's order: by falling level of their block, rising leader in its name, rising key. What the blocks hold, one
 -- after the other, is the keys so sorted, and the blocks are its runs. Assumes an order of at least 2 and rising keys.
-use mathlib.Core.Bool.{Bool, true, false, cond, _||_, _&&_}
-use mathlib.Core.List.{List, [], _∷_, _++_, map, flatMap, List·Permᴰ, Permᴰ·symm}
-use mathlib.Core.Logic.{_⊎_, _≢_, inl, inr, ⊎-elim}
-use mathlib.Core.Path.{_≡_, refl, sym, ap, ap₂, _∙_, subst}
-use Prim.Native.Nat.{ℕ, zero, suc, pred, _+_, _<_, _≤_}
+use mathlib.Core.Bool.{Bool, true, false, cond, _&&_}
+use mathlib.Core.List.{List, [], _∷_, map, flatMap, Permᴰ·symm}
+use mathlib.Core.Path.{_≡_, refl, sym, ap, _∙_}
+use Prim.Native.Nat.{ℕ, suc, pred, _<_, _≤_}
 use native.Mathlib.Omega.{arith}
 use lib.Dec.{eqb, ltb}
 use lib.ListN.{length}
 use borrow.Author.Tests.{eqb-true, eqb-false, eq-eqb, ne-eqb}
 use Rattle.lists.specs.Lists.{keep, member, All, Pairwise, Rising, sortBy, fallingFrom, runs}
-use Rattle.lists.proofs.Tests.{by-test, true-or-false, or-true-left, or-true-right, or-true-cases, and-left, and-right}
+use Rattle.lists.proofs.Tests.{by-test, or-true-left, or-true-right, and-left, and-right}
 use Rattle.lists.proofs.Keep.{all-map, all-mapped, all-always, all-both, all-keep}
 use Rattle.lists.proofs.Membership.{all-member, all-of-members, member-append}
 use Rattle.lists.proofs.Pairwise.{pairwise-map, pairwise-mapped, pairwise-keep, pairwise-unique}
 use Rattle.lists.proofs.FlatMap.{all-flatMap, pairwise-flatMap, AllRelated, falling-within, falling-falls, length-flatMap-some}
 use Rattle.lists.proofs.Sorting.{Before, all-permuted, length-permuted, sortBy-permutes, sortBy-ordered}
-use Rattle.lists.proofs.Runs.{runs-of-parts}
 use Rattle.treap.specs.Treap.{top}
 use Rattle.treap.specs.Levels.{rank, leader}
 use Rattle.treap.specs.Blocks.{Block, rootRank, rootBlock, block, blocksOfLevel, blocks, holding}
 use Rattle.structure.proofs.Blocks.{blockLevel, held-by-root, held-by-block, level-of-root, level-of-other, level-under, Formed, blocks-formed, Holds, blocks-hold, holding-is}
 use Rattle.structure.proofs.Blocks.Formed.{at-root, below}
 use Rattle.structure.proofs.BlockSizes.{led-by-top}
-use Rattle.structure.proofs.Precedence.{precedes, agree, precedes-when, precedes-trans, precedes-one-way, precedes-total, agree-when, agree-similar}
+use Rattle.structure.proofs.Precedence.{precedes, agree, precedes-when, precedes-trans, precedes-one-way, precedes-total}
 use Rattle.structure.proofs.Precedence.Earlier.{by-first, by-second, by-itself}
 
 -- The leader in the name of the block that holds a key: the root for the root block, else the key's leader.

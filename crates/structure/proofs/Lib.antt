@@ -20,3 +20,6 @@ pub mod RelabelSlots
 pub mod Precedence
 pub mod ImageOrder
 pub mod BlockRuns
+pub mod Weights
+pub mod BlockTurns
+pub mod Bounds
