@@ -2,3 +2,5 @@
 pub mod Examples
 pub mod Filling
 pub mod Walking
+pub mod RecordFields
+pub mod Shows
