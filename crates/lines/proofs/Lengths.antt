@@ -24,3 +24,14 @@ key-line-length key rank count = simp length-append (omega (arith, hexadecimal-l
 -- a 64-bit number has at most twenty digits
 pub word-digits : (n : ℕ) → n < 2 ^ 64 → length (decimal n) ≤ 20
 word-digits n h = decimal-fits 19 n (omega arith)
+
+-- how long the lines of 64-bit numbers are at most
+pub header-line-most : (order keys blocks fill root : ℕ) → order < 2 ^ 64 → keys < 2 ^ 64 → blocks < 2 ^ 64 → fill < 2 ^ 64 → length (headerLine order keys blocks fill root) ≤ 129
+header-line-most order keys blocks fill root h k l m =
+    omega (arith, header-line-length order keys blocks fill root, word-digits order h, word-digits keys k, word-digits blocks l, word-digits fill m)
+
+pub block-line-most : (leader level keys : ℕ) → level < 2 ^ 64 → keys < 2 ^ 64 → length (blockLine leader level keys) ≤ 76
+block-line-most leader level keys h k = omega (arith, block-line-length leader level keys, word-digits level h, word-digits keys k)
+
+pub key-line-most : (key rank count : ℕ) → rank < 2 ^ 64 → count < 2 ^ 64 → length (keyLine key rank count) ≤ 74
+key-line-most key rank count h k = omega (arith, key-line-length key rank count, word-digits rank h, word-digits count k)

@@ -4,3 +4,4 @@ pub mod Filling
 pub mod Walking
 pub mod RecordFields
 pub mod Shows
+pub mod Measuring

@@ -19,14 +19,15 @@ use Rattle.structure.proofs.Blocks.{Holds, blocks-hold}
 use Rattle.table.specs.Layout.{mostSlots}
 use Rattle.table.specs.Contents.{Contents, IsKey, Valid}
 use Rattle.image.specs.Layout.{headerBytes, blockBytes, nodeBytes, orderAt, sizeAt, blocksAt, rootAt, leaderAt, levelAt, heldAt, keyAt, rankAt, countAt}
-use Rattle.image.specs.Image.{imageOf, fieldAt}
-use Rattle.image.proofs.Bytes.{field-before}
+use Rattle.image.specs.Image.{imageOf, readImage, isImage, fieldAt}
+use Rattle.image.proofs.Bytes.{IsByte, field-before}
+use Rattle.image.proofs.Judging.{is-image-says}
 use Rattle.image.proofs.Records.{header-length, header-order, header-blocks, header-dropped, block-held, block-dropped}
-use Rattle.image.proofs.Lengths.{nodeOf-length, blockPart-length, order-within}
+use Rattle.image.proofs.Lengths.{nodeOf-length, blockPart-length, order-within, image-longest}
 use Rattle.image.proofs.Fits.{HeaderFits, BlockFits, NodeFits, header-fits, blocks-fit-fields, nodes-fit-fields}
 use Rattle.lines.specs.Lines.{headerLine, blockLine, keyLine}
 use Rattle.listing.specs.Listing.{keyLineOf, blockLines, listing, listingOf}
-use Rattle.listing.specs.Shown.{shownKey, shownKeys, heldIn, partBytes, shownBlockLine, shownBlock, shownBlocks, shownHeader, shown, HasBlocks, HasRecords}
+use Rattle.listing.specs.Shown.{shownKey, shownKeys, heldIn, partBytes, shownBlockLine, shownBlock, shownBlocks, shownHeader, shown, HasBlocks, HasRecords, mostBytes}
 use Rattle.listing.proofs.RecordFields.{header-size, header-root, block-leader, block-level, node-key, node-rank, node-count}
 use Rattle.listing.proofs.Walking.{key-line-shown, block-line-shown, header-line-shown}
 
@@ -183,3 +184,20 @@ module _ (c : Contents) (valid : Valid mostSlots c) where
         blocks-most = omega (arith, number-read fits, fits .number);
         blocks = subst₂ HasBlocks (sym (number-read fits)) (sym records-read) (blocks-there c all-blocks listable);
       }
+
+-- ---- bytes that are an image
+module _ (bytes : List ℕ) (are-bytes : All IsByte bytes) (passed : isImage bytes ≡ true) where
+  abbrev contents : Contents
+  contents = readImage bytes
+
+  says : Valid mostSlots contents × (bytes ≡ imageOf contents)
+  says = is-image-says bytes passed are-bytes
+
+  pub bytes-have-records : HasRecords bytes
+  bytes-have-records = subst HasRecords (sym (says .1)) (image-has-records contents (says .0))
+
+  pub bytes-show : shown bytes ≡ listingOf (readImage bytes)
+  bytes-show = ap shown (says .1) ∙ image-shows contents (says .0)
+
+  pub bytes-most : length bytes ≤ mostBytes
+  bytes-most = omega (arith, ap length (says .1), image-longest contents (says .0))

@@ -109,7 +109,7 @@ module _ {bytes : List ℕ} {left at : ℕ} (state : Coming bytes left at) (turn
       (drop-drop (partBytes (drop at bytes)) at bytes)
 
   -- these bytes are the block's record and as many node records as it says
-  part-long : length (partFrom bytes at) ≡ partBytes (drop at bytes)
+  pub part-long : length (partFrom bytes at) ≡ partBytes (drop at bytes)
   part-long = let h = there .0 in omega (arith, length-take (endFrom bytes at - at) (drop at bytes))
 
   pub part-size : length (partFrom bytes at) ≡ partBytes (partFrom bytes at)

@@ -1,11 +1,17 @@
 // The text that lists an image: one line for the header, each block and each key, written into a lent output.
+mod lengths;
+
 ghost use mathlib.Core.Path.{_≡_};
+ghost use mathlib.Core.Bool.{true};
 ghost use Prim.Native.Nat.{_+_, _*_, _≤_, _<_};
 ghost use lib.ListN.{length, drop};
 ghost use Rattle.treap.specs.Blocks.{fill};
+ghost use Rattle.lists.specs.Lists.{overwrite};
+ghost use Rattle.image.specs.Image.{isImage, readImage};
 ghost use Rattle.image.specs.Layout.{nodeBytes};
 ghost use Rattle.text.specs.Written.{Written};
-ghost use Rattle.listing.specs.Shown.{shownKey, shownKeys, partBytes, shownBlock, shownBlocks, HasBlocks, shownHeader, shown, HasRecords};
+ghost use Rattle.listing.specs.Shown.{shownKey, shownKeys, partBytes, shownBlock, shownBlocks, HasBlocks, shownHeader, shown, HasRecords, mostGrowth};
+ghost use Rattle.listing.specs.Listing.{listingOf};
 use image::BLOCK_BYTES;
 use image::BLOCKS_AT;
 use image::COUNT_AT;
@@ -126,4 +132,24 @@ fn put_records(image: &[u8], output: &mut [u8]) -> usize
     let to = put_header(image, output);
     let start = HEADER_BYTES;
     put_blocks(&image[start..], many, output, to)
+}
+
+// Write the listing of an image from the start of the output on; later bytes stay. How long it is. Internal to this library's
+// crates: the bytes are an image, and there is room for its listing.
+pub fn write(image: &[u8], output: &mut [u8]) -> usize
+    requires { ⌜ isImage (now image) ≡ true ⌝ }
+    requires { ⌜ length (listingOf (readImage (now image))) ≤ length (now output) ⌝ }
+    ensures { λ r. ⌜ r ≡ length (listingOf (readImage (now (image .entry)))) ⌝ }
+    ensures { λ _. ⌜ now (output .exit) ≡ overwrite (now (output .entry)) 0 (listingOf (readImage (now (image .entry)))) ⌝ }
+{
+    put_records(image, output)
+}
+
+// How long the listing of an image is: at most ten times the image. Internal to this library's crates: the bytes are an image.
+pub fn size(image: &[u8]) -> usize
+    requires { ⌜ isImage (now image) ≡ true ⌝ }
+    ensures { λ r. ⌜ r ≡ length (listingOf (readImage (now (image .entry)))) ⌝ }
+    ensures { λ r. ⌜ r ≤ mostGrowth * length (now (image .entry)) ⌝ }
+{
+    lengths::records(image)
 }
