@@ -1,5 +1,5 @@
 -- The listing of document 01's example B, and of no keys. Assumes nothing.
-use mathlib.Core.List.{List, [], _∷_, flatMap}
+use mathlib.Core.List.{[], _∷_, flatMap}
 use mathlib.Core.Path.{_≡_, refl}
 use Prim.Native.Nat.{ℕ}
 use Rattle.priority.specs.Priority.{priorityOf}

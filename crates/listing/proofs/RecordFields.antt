@@ -1,10 +1,10 @@
 -- What stands in the fields of an image's records that a listing shows. Assumes of a number that it fits its field.
-use mathlib.Core.List.{List, [], _∷_, _++_}
+use mathlib.Core.List.{List, _++_}
 use mathlib.Core.Path.{_≡_}
 use Prim.Native.Nat.{ℕ, _^_, _<_}
-use Rattle.treap.specs.Image.{littleEndian, countBytes, keyBytes, headerRecord, blockRecord, nodeRecord}
+use Rattle.treap.specs.Image.{countBytes, keyBytes, headerRecord, blockRecord, nodeRecord}
 use Rattle.image.specs.Layout.{sizeAt, rootAt, leaderAt, levelAt, keyAt, rankAt, countAt}
-use Rattle.image.specs.Image.{numberOf, fieldAt}
+use Rattle.image.specs.Image.{fieldAt}
 use Rattle.image.proofs.Bytes.{number-of-bytes}
 
 module _ (order n b root : ℕ) (rest : List ℕ) where

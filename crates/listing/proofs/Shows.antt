@@ -1,11 +1,11 @@
 -- The records of an image show its listing. Assumes valid contents; of blocks, where any are read, that their numbers fit their
 -- fields.
 use mathlib.Core.Bool.{true}
-use mathlib.Core.List.{List, [], _∷_, _++_, flatMap, append-nil}
+use mathlib.Core.List.{List, [], _∷_, _++_, flatMap}
 use mathlib.Core.Path.{_≡_, refl, sym, ap, ap₂, _∙_, subst, subst₂}
-use Prim.Native.Nat.{ℕ, zero, suc, _+_, _*_, _^_, _≤_, _<_}
+use Prim.Native.Nat.{ℕ, _+_, _*_, _≤_}
 use native.Mathlib.Omega.{arith}
-use lib.ListN.{length, take, drop, length-append}
+use lib.ListN.{length, drop, length-append}
 use lib.Seq.{take-at, drop-at}
 use Rattle.lists.specs.Lists.{All, member}
 use Rattle.lists.proofs.Keep.{all-map, all-both}
@@ -14,20 +14,19 @@ use Rattle.priority.specs.Priority.{priorityOf}
 use Rattle.treap.specs.Treap.{top, leftLink, rightLink}
 use Rattle.treap.specs.Levels.{rank, count}
 use Rattle.treap.specs.Blocks.{Block, blocks, fill}
-use Rattle.treap.specs.Image.{orderBytes, countBytes, keyBytes, headerRecord, blockRecord, nodeOf, blockPart, image}
+use Rattle.treap.specs.Image.{orderBytes, countBytes, keyBytes, headerRecord, nodeOf, blockPart, image}
 use Rattle.structure.proofs.Blocks.{Holds, blocks-hold}
 use Rattle.table.specs.Layout.{mostSlots}
-use Rattle.table.specs.Contents.{Contents, IsKey, Valid}
-use Rattle.image.specs.Layout.{headerBytes, blockBytes, nodeBytes, orderAt, sizeAt, blocksAt, rootAt, leaderAt, levelAt, heldAt, keyAt, rankAt, countAt}
+use Rattle.table.specs.Contents.{Contents, Valid}
+use Rattle.image.specs.Layout.{headerBytes, blockBytes, nodeBytes, orderAt, sizeAt, blocksAt, rootAt, heldAt}
 use Rattle.image.specs.Image.{imageOf, readImage, isImage, fieldAt}
 use Rattle.image.proofs.Bytes.{IsByte, field-before}
 use Rattle.image.proofs.Judging.{is-image-says}
 use Rattle.image.proofs.Records.{header-length, header-order, header-blocks, header-dropped, block-held, block-dropped}
 use Rattle.image.proofs.Lengths.{nodeOf-length, blockPart-length, order-within, image-longest}
 use Rattle.image.proofs.Fits.{HeaderFits, BlockFits, NodeFits, header-fits, blocks-fit-fields, nodes-fit-fields}
-use Rattle.lines.specs.Lines.{headerLine, blockLine, keyLine}
 use Rattle.listing.specs.Listing.{keyLineOf, blockLines, listing, listingOf}
-use Rattle.listing.specs.Shown.{shownKey, shownKeys, heldIn, partBytes, shownBlockLine, shownBlock, shownBlocks, shownHeader, shown, HasBlocks, HasRecords, mostBytes}
+use Rattle.listing.specs.Shown.{shownKey, shownKeys, heldIn, partBytes, shownBlock, shownBlocks, shown, HasBlocks, HasRecords, mostBytes}
 use Rattle.listing.proofs.RecordFields.{header-size, header-root, block-leader, block-level, node-key, node-rank, node-count}
 use Rattle.listing.proofs.Walking.{key-line-shown, block-line-shown, header-line-shown}
 

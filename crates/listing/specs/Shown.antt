@@ -1,5 +1,5 @@
 -- The lines that the records of an image show, read from its bytes. Assumes nothing.
-use mathlib.Core.List.{List, [], _∷_, _++_}
+use mathlib.Core.List.{List, [], _++_}
 use Prim.Native.Nat.{ℕ, zero, suc, _+_, _*_, _≤_, _<_}
 use lib.ListN.{length, take, drop}
 use Rattle.treap.specs.Image.{orderBytes, countBytes, keyBytes}

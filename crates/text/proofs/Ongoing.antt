@@ -1,9 +1,8 @@
 -- Text that is being written piece by piece: what is written, and what is still to come. Assumes nothing.
-use mathlib.Core.List.{List, [], _∷_, _++_, append-nil, append-assoc}
-use mathlib.Core.Path.{_≡_, refl, sym, ap, _∙_, subst}
+use mathlib.Core.List.{List, [], _++_, append-nil, append-assoc}
+use mathlib.Core.Path.{_≡_, refl, sym, _∙_, subst}
 use Prim.Native.Nat.{ℕ, _+_, _≤_}
-use native.Mathlib.Omega.{arith}
-use lib.ListN.{length, length-append}
+use lib.ListN.{length}
 use Rattle.text.specs.Written.{Written}
 use Rattle.text.proofs.Pieces.{written-none, written-size, written-then, next-fits, front-fits}
 

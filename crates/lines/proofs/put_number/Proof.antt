@@ -1,5 +1,4 @@
 -- `lines::put_number` meets its contract. Assumes nothing.
-use native.Mathlib.Omega.{arith}
 use Rattle.text.specs.Digits.{decimal}
 use Rattle.text.proofs.Pieces.{front-fits, next-fits, written-then}
 use borrow.Author.Needs.{needs}

@@ -2,11 +2,10 @@
 -- Assumes nothing.
 use mathlib.Core.List.{List, _++_}
 use mathlib.Core.Path.{_≡_, sym, ap, ap₂, _∙_, subst}
-use Prim.Native.Nat.{ℕ, _+_, _-_, _≤_}
+use Prim.Native.Nat.{ℕ, _-_, _≤_}
 use native.Mathlib.Omega.{arith}
 use lib.ListN.{length, take, drop}
 use borrow.Author.Needs.{needs}
-use Rattle.text.specs.Written.{Written}
 use Rattle.text.proofs.Ongoing.{Ongoing, ongoing-none, ongoing-all, ongoing-size, ongoing-fits, ongoing-next}
 use Rattle.listing.specs.Shown.{partBytes, shownBlock, shownBlocks}
 use Rattle.listing.proofs.Walking.{Coming, coming-all, endFrom, partFrom, blocksFrom, coming-end, coming-next, blocks-next, part-size}

@@ -1,13 +1,12 @@
 -- `listing::put_keys` meets its contract. The loop's invariant: the lines of the records from its index on are still to come.
 -- Assumes nothing.
 use mathlib.Core.List.{List, _++_}
-use mathlib.Core.Path.{sym, ap, subst}
+use mathlib.Core.Path.{subst}
 use Prim.Native.Nat.{ℕ, _+_, _*_, _-_, _≤_}
 use native.Mathlib.Nat.{sub-zero}
 use native.Mathlib.Omega.{arith}
 use lib.ListN.{length, drop, length-drop, length-take}
 use borrow.Author.Needs.{needs}
-use Rattle.text.specs.Written.{Written}
 use Rattle.text.proofs.Ongoing.{Ongoing, ongoing-none, ongoing-all, ongoing-size, ongoing-fits, ongoing-next}
 use Rattle.image.specs.Layout.{nodeBytes}
 use Rattle.listing.specs.Shown.{shownKey, shownKeys}

@@ -1,7 +1,7 @@
 -- `text::decimal_length` meets its contract. The loop's invariant: the digits counted beyond the first, with those of what is left,
 -- are those of the number. Assumes nothing.
-use mathlib.Core.Path.{_≡_, refl}
-use Prim.Native.Nat.{ℕ, suc, _+_}
+use mathlib.Core.Path.{_≡_}
+use Prim.Native.Nat.{suc, _+_}
 use native.Mathlib.Omega.{arith}
 use lib.ListN.{length}
 use borrow.Author.Needs.{needs}

@@ -5,7 +5,6 @@ use native.Mathlib.Nat.{mod-lt}
 use native.Mathlib.Omega.{arith}
 use lib.ListN.{set}
 use borrow.Author.Needs.{needs}
-use Rattle.text.specs.Digits.{digits}
 use Rattle.text.proofs.Spelling.{digits-length, Spelled, spelled-none, spelled-more, spelled-all}
 use Rattle.text.proofs.put_digits.Statement.{statement}
 use Rattle.text.proofs.put_digits.Tie as tie

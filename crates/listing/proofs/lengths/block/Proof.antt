@@ -1,11 +1,10 @@
 -- `listing::lengths::block` meets its contract. Assumes nothing.
-use mathlib.Core.List.{List, _++_}
-use mathlib.Core.Path.{_≡_, sym, ap, ap₂, _∙_}
+use mathlib.Core.List.{List}
+use mathlib.Core.Path.{_≡_, ap, ap₂, _∙_}
 use Prim.Native.Nat.{ℕ, _+_, _*_, _-_, _≤_}
 use native.Mathlib.Omega.{arith}
 use lib.ListN.{length, take, drop, length-append, length-drop}
 use Rattle.image.specs.Layout.{blockBytes, nodeBytes}
-use Rattle.lines.specs.Lines.{blockLine}
 use Rattle.lines.proofs.Lengths.{block-line-most}
 use Rattle.listing.specs.Shown.{heldIn, shownKeys, shownBlockLine, shownBlock, mostGrowth}
 use Rattle.listing.proofs.Walking.{block-line-shown, part-nodes, from-index}

@@ -4,7 +4,7 @@ use mathlib.Core.List.{List, _++_}
 use mathlib.Core.Path.{_≡_, sym, ap, ap₂, _∙_, subst}
 use Prim.Native.Nat.{ℕ, _+_, _*_, _-_, _≤_}
 use native.Mathlib.Omega.{arith}
-use lib.ListN.{length, take, drop, length-drop, length-take}
+use lib.ListN.{length, take, drop}
 use borrow.Author.Needs.{needs}
 use Rattle.listing.specs.Shown.{partBytes, shownBlock, shownBlocks, mostGrowth}
 use Rattle.listing.proofs.Walking.{Coming, coming-all, endFrom, partFrom, blocksFrom, coming-end, coming-next, blocks-next, part-long, part-size}

@@ -1,8 +1,7 @@
 -- `listing::lengths::key` meets its contract. Assumes nothing.
-use mathlib.Core.Path.{_≡_, sym, ap, _∙_}
+use mathlib.Core.Path.{ap, _∙_}
 use native.Mathlib.Omega.{arith}
 use lib.ListN.{length}
-use Rattle.lines.specs.Lines.{keyLine}
 use Rattle.lines.proofs.Lengths.{key-line-most}
 use Rattle.listing.proofs.Walking.{key-line-shown}
 use borrow.Author.Needs.{needs}
