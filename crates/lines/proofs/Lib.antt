@@ -1,0 +1,2 @@
+-- How long the lines of a listing are.
+pub mod Lengths

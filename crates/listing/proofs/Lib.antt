@@ -1,0 +1,7 @@
+-- Laws of the listing.
+pub mod Examples
+pub mod Filling
+pub mod Walking
+pub mod RecordFields
+pub mod Shows
+pub mod Measuring

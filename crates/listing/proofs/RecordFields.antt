@@ -1,0 +1,39 @@
+-- What stands in the fields of an image's records that a listing shows. Assumes of a number that it fits its field.
+use mathlib.Core.List.{List, _++_}
+use mathlib.Core.Path.{_≡_}
+use Prim.Native.Nat.{ℕ, _^_, _<_}
+use Rattle.treap.specs.Image.{countBytes, keyBytes, headerRecord, blockRecord, nodeRecord}
+use Rattle.image.specs.Layout.{sizeAt, rootAt, leaderAt, levelAt, keyAt, rankAt, countAt}
+use Rattle.image.specs.Image.{fieldAt}
+use Rattle.image.proofs.Bytes.{number-of-bytes}
+
+module _ (order n b root : ℕ) (rest : List ℕ) where
+  pub header-size : n < 65536 → fieldAt sizeAt countBytes (headerRecord order n b root ++ rest) ≡ n
+  unfolding headerRecord fieldAt
+  header-size h = number-of-bytes countBytes n h
+
+  pub header-root : root < 2 ^ 64 → fieldAt rootAt keyBytes (headerRecord order n b root ++ rest) ≡ root
+  unfolding headerRecord fieldAt
+  header-root h = number-of-bytes keyBytes root h
+
+module _ (leader level n : ℕ) (rest : List ℕ) where
+  pub block-leader : leader < 2 ^ 64 → fieldAt leaderAt keyBytes (blockRecord leader level n ++ rest) ≡ leader
+  unfolding blockRecord fieldAt
+  block-leader h = number-of-bytes keyBytes leader h
+
+  pub block-level : level < 65536 → fieldAt levelAt countBytes (blockRecord leader level n ++ rest) ≡ level
+  unfolding blockRecord fieldAt
+  block-level h = number-of-bytes countBytes level h
+
+module _ (key left right rank count : ℕ) where
+  pub node-key : key < 2 ^ 64 → fieldAt keyAt keyBytes (nodeRecord key left right rank count) ≡ key
+  unfolding nodeRecord fieldAt
+  node-key h = number-of-bytes keyBytes key h
+
+  pub node-rank : rank < 65536 → fieldAt rankAt countBytes (nodeRecord key left right rank count) ≡ rank
+  unfolding nodeRecord fieldAt
+  node-rank h = number-of-bytes countBytes rank h
+
+  pub node-count : count < 65536 → fieldAt countAt countBytes (nodeRecord key left right rank count) ≡ count
+  unfolding nodeRecord fieldAt
+  node-count h = number-of-bytes countBytes count h

@@ -1,0 +1,6 @@
+-- Laws of digits, and of text written piece by piece.
+pub mod Examples
+pub mod Decimal
+pub mod Spelling
+pub mod Pieces
+pub mod Ongoing
