@@ -1,0 +1,2 @@
+-- The definitions that the contracts of `recognize` cite.
+pub mod Recognize

@@ -1,0 +1,73 @@
+// Deciding whether bytes are an image: their keys are collected and sorted, and the image of what they show is compared with them.
+ghost use mathlib.Core.Bool.{true};
+ghost use mathlib.Core.Path.{_≡_};
+ghost use Prim.Native.Nat.{_≤_};
+ghost use lib.ListN.{length};
+ghost use Rattle.lists.specs.Lists.{overwrite, same};
+ghost use Rattle.table.specs.Layout.{mostSlots};
+ghost use Rattle.image.specs.Image.{readImage, isImage};
+ghost use Rattle.recognize.specs.Recognize.{recognized};
+use image::MOST_BYTES;
+use image::ORDER_AT;
+use image::ORDER_BYTES;
+use reading::Collected;
+use table::GREATEST_ORDER;
+use table::LEAST_ORDER;
+
+// What recognizing an image finds: how many keys it shows.
+pub enum Recognized {
+    Image(usize),
+    Other,
+}
+
+// Whether two lists of bytes are equal.
+fn same_bytes(left: &[u8], right: &[u8]) -> bool
+    ensures { λ r. ⌜ r ≡ same (now (left .entry)) (now (right .entry)) ⌝ }
+{
+    if left.len() != right.len() {
+        return false;
+    }
+    for i in 0..left.len() {
+        if left[i] != right[i] {
+            return false;
+        }
+    }
+    true
+}
+
+// Recognize an image, with lists to work in; where it is one, its keys, rising, are then at the start of `keys`. What the other lists
+// then hold is left open.
+fn recognize_in(
+    image: &[u8],
+    held: &mut [u64],
+    weights: &mut [u64],
+    ranking: &mut [u64],
+    spare: &mut [u64],
+    copy: &mut [u8],
+    keys: &mut [u64],
+) -> Recognized
+    requires { ⌜ (length (now held) ≡ mostSlots) × (mostSlots ≤ length (now weights)) × (mostSlots ≤ length (now ranking)) × (mostSlots ≤ length (now spare)) × (mostSlots ≤ length (now keys)) × (length (now copy) ≡ length (now image)) ⌝ }
+    ensures { λ r. ⌜ r ≡ recognized (now (image .entry)) ⌝ }
+    ensures { λ _. ⌜ (isImage (now (image .entry)) ≡ true → now (keys .exit) ≡ overwrite (now (keys .entry)) 0 (readImage (now (image .entry)) .keys)) ⌝ }
+{
+    let found = reading::collect(image, held);
+    let Collected::Keys(n) = found else {
+        return Recognized::Other;
+    };
+    let order = fields::get(image, ORDER_AT, ORDER_BYTES);
+    if !ranges::is_within(order, LEAST_ORDER, GREATEST_ORDER) {
+        return Recognized::Other;
+    }
+    decode::sort_keys(held, n, weights, ranking, spare, keys);
+    if !rising::is_rising(&keys[..n]) {
+        return Recognized::Other;
+    }
+    let size = drawn::write(order, &keys[..n], copy);
+    if size != image.len() {
+        return Recognized::Other;
+    }
+    if !same_bytes(image, copy) {
+        return Recognized::Other;
+    }
+    Recognized::Image(n)
+}
