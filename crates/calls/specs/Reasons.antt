@@ -1,11 +1,11 @@
 -- The reasons for which a call is turned down, by document 01's numbers. Assumes nothing.
-use mathlib.Core.Bool.{Bool, not, _&&_}
+use mathlib.Core.Bool.{not}
 use mathlib.Core.List.{List}
 use Prim.Native.Nat.{ℕ}
 use lib.Dec.{eqb, ltb}
 use lib.ListN.{length}
-use Rattle.lists.specs.Lists.{nonzero, risesB, every, member}
-use Rattle.table.specs.Contents.{Contents, newOrder}
+use Rattle.lists.specs.Lists.{member}
+use Rattle.table.specs.Contents.{Contents, newOrder, risingKeys}
 use Rattle.table.specs.Table.{contentsOf}
 use Rattle.image.specs.Image.{isImage}
 use Rattle.judge.specs.Judge.{slotsFor, isSound}
@@ -30,10 +30,6 @@ zeroKey key = record { number = 3; applies = eqb key 0 }
 -- "4. Low above high."
 unfoldable pub lowAboveHigh : ℕ → ℕ → Reason
 lowAboveHigh low high = record { number = 4; applies = ltb high low }
-
--- "Build takes a strictly rising list of non-zero keys, perhaps empty."
-unfoldable pub risingKeys : List ℕ → Bool
-risingKeys list = risesB list && every nonzero list
 
 -- "5. The build list is not strictly rising or has a zero."
 unfoldable pub notRising : List ℕ → Reason

@@ -1,3 +1,4 @@
 -- The laws of `decode`.
 mod Neighbours
 mod Gathered
+pub mod RisingKeys

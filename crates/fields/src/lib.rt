@@ -15,9 +15,11 @@ pub fn put(output: &mut [u8], at: usize, width: usize, number: u64)
     ensures { λ _. ⌜ now (output .exit) ≡ overwrite (now (output .entry)) at (littleEndian width number) ⌝ }
 {
     let mut rest = number;
-    for i in 0..width {
-        output[at + i] = (rest % BYTE) as u8;
+    let mut left = width;
+    while 0 < left {
+        output[at + width - left] = (rest % BYTE) as u8;
         rest = rest / BYTE;
+        left -= 1;
     }
 }
 

@@ -1,18 +1,16 @@
 -- Where a run of one weight ends, and how many runs there are: the invariants of the loops, their steps and ends. Assumes nothing.
 use mathlib.Core.Bool.{true}
-use mathlib.Core.List.{List, [], _∷_, _++_}
-use mathlib.Core.Path.{_≡_, refl, sym, ap, _∙_, subst}
+use mathlib.Core.List.{List}
+use mathlib.Core.Path.{_≡_, sym, ap, _∙_}
 use mathlib.Core.Logic.{_≢_}
 use Prim.Native.Nat.{ℕ, _+_, _<_, _≤_}
 use native.Mathlib.Omega.{arith}
 use lib.Dec.{eqb}
 use lib.ListN.{length, getD, drop, drop-of-length-le}
-use lib.Seq.{slice, slice-empty, length-slice, drop-cons}
-use borrow.Author.Tests.{eqb-true, eq-eqb, ne-eqb}
-use Rattle.lists.specs.Lists.{All, runs}
-use Rattle.lists.proofs.Keep.{all-map, all-append}
-use Rattle.lists.proofs.Parts.{slice-more, drop-slice}
-use Rattle.lists.proofs.Runs.{NotFirst, runs-next}
+use borrow.Author.Tests.{eqb-true, eqb-false, eq-eqb, ne-eqb}
+use Rattle.lists.specs.Lists.{runs}
+use Rattle.lists.proofs.Tests.{by-test}
+use Rattle.lists.proofs.RunEnds.{runs-at}
 use Rattle.imaging.specs.Naming.{sameWeight}
 use Rattle.imaging.specs.Parts.{RunEnds}
 
@@ -21,26 +19,11 @@ similar : (weights : List ℕ) (x y z : ℕ) → sameWeight weights x y ≡ true
 unfolding sameWeight
 similar weights x y z e = ap (λ (w : ℕ). eqb w (getD weights z 0)) (eqb-true (getD weights x 0) (getD weights y 0) e)
 
--- elements of one weight, and then none or one of another weight
-run-first : (weights run rest : List ℕ) (weight : ℕ) → 0 < length run → All (λ i. getD weights i 0 ≡ weight) run
-    → ((y : ℕ) (ys : List ℕ) → rest ≡ y ∷ ys → getD weights y 0 ≢ weight)
-    → runs (sameWeight weights) (run ++ rest) ≡ run ∷ runs (sameWeight weights) rest
-unfolding sameWeight
-run-first weights [] rest weight some all other = absurd (omega arith)
-run-first weights (x ∷ xs) rest weight some all other =
-    runs-next (sameWeight weights) (similar weights) x xs rest
-    (all-map (λ i. getD weights i 0 ≡ weight) (λ i. sameWeight weights x i ≡ true) (λ i e. eq-eqb (getD weights x 0) (getD weights i 0) (all .0 ∙ sym e)) xs (all .1))
-    (apart rest other)
-  where
-    apart : (zs : List ℕ) → ((y : ℕ) (ys : List ℕ) → zs ≡ y ∷ ys → getD weights y 0 ≢ weight) → NotFirst (sameWeight weights) x zs
-    apart [] d = tt
-    apart (z ∷ zs) d = ne-eqb (getD weights x 0) (getD weights z 0) (λ e. d z zs refl (sym e ∙ all .0))
-
 -- The list has one weight from `low` up to `high`.
 pub record Running (weights sorted : List ℕ) (low weight high : ℕ) : Type 0 where
   pub some : low < high
   pub within : high ≤ length sorted
-  pub alike : All (λ i. getD weights i 0 ≡ weight) (slice low high sorted)
+  pub alike : (k : ℕ) → low ≤ k → k < high → getD weights (getD sorted k 0) 0 ≡ weight
 
 module _ (weights sorted : List ℕ) (low : ℕ) where
   pub running-first : (weight : ℕ) → low < length sorted → weight ≡ getD weights (getD sorted low 0) 0 → Running weights sorted low weight (low + 1)
@@ -48,7 +31,7 @@ module _ (weights sorted : List ℕ) (low : ℕ) where
       record {
         some = omega arith;
         within = omega arith;
-        alike = subst (All (λ i. getD weights i 0 ≡ weight)) (sym (slice-more low low sorted (omega arith) h ∙ ap (λ (xs : List ℕ). xs ++ (getD sorted low 0 ∷ [])) (slice-empty low sorted))) (sym e, tt);
+        alike = λ k l m. let here : k ≡ low = omega arith in ap (λ (i : ℕ). getD weights (getD sorted i 0) 0) here ∙ sym e;
       }
 
   module _ (weight high : ℕ) (running : Running weights sorted low weight high) where
@@ -59,29 +42,31 @@ module _ (weights sorted : List ℕ) (low : ℕ) where
           some = omega arith;
           within = omega arith;
           alike =
-              subst (All (λ i. getD weights i 0 ≡ weight)) (sym (slice-more low high sorted (omega arith) h))
-              (all-append (λ i. getD weights i 0 ≡ weight) (slice low high sorted) (getD sorted high 0 ∷ []) (running .alike) (e, tt));
+              λ k l m.
+              by-test (eqb k high)
+              (λ t. ap (λ (i : ℕ). getD weights (getD sorted i 0) 0) (eqb-true k high t) ∙ e)
+              (λ t. let d : k ≢ high = eqb-false k high t in running .alike k l (omega arith));
         }
 
-    ended : ((y : ℕ) (ys : List ℕ) → drop high sorted ≡ y ∷ ys → getD weights y 0 ≢ weight) → RunEnds weights sorted low high
+    ended : (high < length sorted → getD weights (getD sorted high 0) 0 ≢ weight) → RunEnds weights sorted low high
+    unfolding sameWeight
     ended other =
         let s = running .some in
-        let w = running .within in
-        let run = slice low high sorted in
-        let many = length-slice low high sorted w in
+        let first = running .alike low (omega arith) s in
         record {
           some = s;
-          within = w;
+          within = running .within;
           first =
-              ap (runs (sameWeight weights)) (drop-slice low high sorted (omega arith) w)
-              ∙ run-first weights run (drop high sorted) weight (omega arith) (running .alike) other;
+              runs-at (sameWeight weights) (similar weights) sorted low high s (running .within)
+              (λ k l m. eq-eqb (getD weights (getD sorted low 0) 0) (getD weights (getD sorted k 0) 0) (first ∙ sym (running .alike k (omega arith) m)))
+              (λ l. ne-eqb (getD weights (getD sorted low 0) 0) (getD weights (getD sorted high 0) 0) (λ e. other l (sym e ∙ first)));
         }
 
-    pub ended-by-other : high < length sorted → getD weights (getD sorted high 0) 0 ≢ weight → RunEnds weights sorted low high
-    ended-by-other h d = ended (λ y ys e. subst (λ (z : ℕ). getD weights z 0 ≢ weight) (ap (λ (xs : List ℕ). getD xs 0 0) (sym (drop-cons sorted high 0 h) ∙ e)) d)
+    pub ended-by-other : getD weights (getD sorted high 0) 0 ≢ weight → RunEnds weights sorted low high
+    ended-by-other d = ended (λ _. d)
 
     pub ended-by-end : length sorted ≤ high → RunEnds weights sorted low high
-    ended-by-end h = ended (λ y ys e i. let z = ap length (sym (drop-of-length-le sorted h) ∙ e) in omega arith)
+    ended-by-end h = ended (λ l. absurd (omega arith))
 
 -- How many runs of the list end at or before `low`.
 pub record RunsCounted (weights sorted : List ℕ) (low many : ℕ) : Type 0 where

@@ -13,7 +13,7 @@ use Rattle.lists.proofs.Parts.{slice-more, overwrite-next}
 use Rattle.treap.specs.Image.{blockRecord, nodeRecord}
 use Rattle.image.specs.Layout.{blockBytes, nodeBytes}
 use Rattle.encode.specs.Encode.{Columns, keyAt}
-use Rattle.records.proofs.Fields.{block-length, node-length}
+use Rattle.image.proofs.Records.{block-length, node-length}
 use Rattle.imaging.specs.Naming.{levelAt, leaderAt}
 use Rattle.imaging.specs.Parts.{nodeAt, blockAt}
 

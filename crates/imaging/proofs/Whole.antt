@@ -2,7 +2,7 @@
 use mathlib.Core.Bool.{Bool, true, false, cond}
 use mathlib.Core.List.{List, [], _∷_, _++_, flatMap}
 use mathlib.Core.Path.{_≡_, refl, ap, ap₂, _∙_}
-use Prim.Native.Nat.{ℕ, suc, _+_, _*_, _<_, _≤_}
+use Prim.Native.Nat.{ℕ, suc, _+_, _*_, _≤_}
 use native.Mathlib.Omega.{arith}
 use lib.ListN.{length, length-append}
 use Rattle.lists.specs.Lists.{overwrite, joinRun, runs}
@@ -10,7 +10,7 @@ use Rattle.lists.proofs.Parts.{overwrite-next}
 use Rattle.treap.specs.Image.{headerRecord}
 use Rattle.image.specs.Layout.{headerBytes, blockBytes, nodeBytes}
 use Rattle.encode.specs.Encode.{Columns, keyAt}
-use Rattle.records.proofs.Fields.{header-length}
+use Rattle.image.proofs.Records.{header-length}
 use Rattle.imaging.specs.Naming.{sameWeight}
 use Rattle.imaging.specs.Parts.{blockAt, blocksAt, imageAt}
 use Rattle.imaging.proofs.Nodes.{block-at-length}

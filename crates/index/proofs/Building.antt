@@ -10,7 +10,7 @@ use lib.ListN.{length}
 use borrow.Author.Tests.{ne-eqb, lt-ltb, le-ltb}
 use Rattle.lists.proofs.Tests.{lies-says}
 use Rattle.table.specs.Layout.{mostSlots, leastOrder, greatestOrder}
-use Rattle.table.specs.Contents.{Contents, tableOrder, newOrder}
+use Rattle.table.specs.Contents.{Contents, tableOrder, newOrder, risingKeys}
 use Rattle.table.specs.Table.{fresh}
 use Rattle.judge.specs.Judge.{slotsFor}
 use Rattle.judge.proofs.Lengths.{SlotsOf, slots-for-some}
@@ -19,9 +19,9 @@ use Rattle.replies.specs.Replies.{builtOf}
 use Rattle.replies.specs.declared.Refusal.the-variants.{WrongLength, WrongOrder, NotRising, TooManyKeys}
 use Rattle.replies.specs.declared.Built.{Built}
 use Rattle.replies.specs.declared.Built.the-variants.{Done, Refused}
-use Rattle.calls.specs.Reasons.{wrongLength, wrongOrder, risingKeys, notRising, tooManyKeys}
+use Rattle.calls.specs.Reasons.{wrongLength, wrongOrder, notRising, tooManyKeys}
 use Rattle.calls.specs.Calls.{rewritten, buildRefusal, buildReply, buildAfter}
-use Rattle.index.proofs.Tests.{rising-says}
+use Rattle.decode.proofs.RisingKeys.{rising-says}
 
 module _ (words : List ℕ) (order : ℕ) (list : List ℕ) where
   -- What a build that answers so and leaves these words meets.

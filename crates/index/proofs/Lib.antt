@@ -1,6 +1,5 @@
 -- Laws of the calls, one subject a file.
 pub mod Blank
-pub mod Tests
 pub mod SettingUp
 pub mod Building
 pub mod LookingUp

@@ -5,7 +5,6 @@ ghost use lib.ListN.{length};
 ghost use Rattle.table.specs.Layout.{mostSlots, tableWords};
 ghost use Rattle.table.specs.Contents.{newOrder};
 ghost use Rattle.replies.specs.Replies.{setUpOf, builtOf, insertedOf, deletedOf, lookedUpOf, rangedOf};
-ghost use Rattle.calls.specs.Reasons.{risingKeys};
 ghost use Rattle.calls.specs.Calls.{setUpReply, setUpAfter, buildReply, buildAfter, insertReply, insertAfter, deleteReply, deleteAfter, lookupReply, rangeReply, rangeOutput};
 use judge::Verdict;
 use lookup::Looked;
@@ -25,20 +24,6 @@ fn is_new_order(order: u64) -> bool
     ensures { λ r. ⌜ r ≡ newOrder order ⌝ }
 {
     ranges::is_within(order, LEAST_ORDER, GREATEST_ORDER)
-}
-
-// Whether the list rises strictly and has no zero.
-fn is_rising(list: &[u64]) -> bool
-    ensures { λ r. ⌜ r ≡ risingKeys (now (list .entry)) ⌝ }
-{
-    let n = list.len();
-    if n == 0 {
-        return true;
-    }
-    if list[0] == 0 {
-        return false;
-    }
-    decode::rises(list, n)
 }
 
 // Make of any words of a right length the blank table of an order. Refusals: 1, 2.
@@ -69,7 +54,7 @@ pub fn build(table: &mut [u64], order: u64, list: &[u64]) -> Built
     if !is_new_order(order) {
         return Built::Refused(Refusal::WrongOrder);
     }
-    if !is_rising(list) {
+    if !decode::is_rising(list) {
         return Built::Refused(Refusal::NotRising);
     }
     if many < list.len() {

@@ -59,10 +59,10 @@ fn recognize_in(
         return Recognized::Other;
     }
     decode::sort_keys(held, n, weights, ranking, spare, keys);
-    if !rising::is_rising(&keys[..n]) {
+    if !decode::is_rising(&keys[..n]) {
         return Recognized::Other;
     }
-    let size = drawn::write(order, &keys[..n], copy);
+    let size = writer::write(order, &keys[..n], copy);
     if size != image.len() {
         return Recognized::Other;
     }

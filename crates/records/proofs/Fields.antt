@@ -67,16 +67,3 @@ node-written before marked keyed lefted righted ranked output at key left right 
     let part = part ++ littleEndian keyBytes right in
     let i = field-written before at part righted (littleEndian countBytes rank) ranked 26 refl (omega arith) g a in
     field-written before at (part ++ littleEndian countBytes rank) ranked (littleEndian countBytes count) output 28 refl (omega arith) i n
-
--- ---- how long the records are
-pub header-length : (order size blocks root : ℕ) → length (headerRecord order size blocks root) ≡ headerBytes
-unfolding headerRecord
-header-length order size blocks root = refl
-
-pub block-length : (leader level held : ℕ) → length (blockRecord leader level held) ≡ blockBytes
-unfolding blockRecord
-block-length leader level held = refl
-
-pub node-length : (key left right rank count : ℕ) → length (nodeRecord key left right rank count) ≡ nodeBytes
-unfolding nodeRecord
-node-length key left right rank count = refl

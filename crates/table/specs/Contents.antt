@@ -1,10 +1,10 @@
 -- What a table holds, whatever its number of slots: document 01's "order and set". Assumes nothing.
-use mathlib.Core.Bool.{Bool, true}
+use mathlib.Core.Bool.{Bool, true, _&&_}
 use mathlib.Core.List.{List}
 use mathlib.Core.Path.{_≡_}
 use Prim.Native.Nat.{ℕ, _^_, _<_, _≤_}
 use lib.ListN.{length}
-use Rattle.lists.specs.Lists.{lies, All, Rising}
+use Rattle.lists.specs.Lists.{lies, nonzero, risesB, every, All, Rising}
 use Rattle.table.specs.Layout.{leastOrder, greatestOrder}
 
 -- An order and a set of keys; the set is the list of its keys, rising.
@@ -23,6 +23,10 @@ newOrder α = tableOrder α
 -- "A key is a 64-bit unsigned number, 1 to 2^64 − 1."
 abbrev pub IsKey : ℕ → Type 0
 IsKey k = (1 ≤ k) × (k < 2 ^ 64)
+
+-- "Build takes a strictly rising list of non-zero keys, perhaps empty."
+unfoldable pub risingKeys : List ℕ → Bool
+risingKeys list = risesB list && every nonzero list
 
 -- An order that a table may have, and a set of at most so many keys.
 pub record Valid (most : ℕ) (c : Contents) : Type 0 where

@@ -1,7 +1,6 @@
--- `fields::put` meets its contract. The loop's invariant: the lowest i bytes are written. Assumes nothing.
-use mathlib.Core.Path.{_≡_, sym, ap, _∙_, subst}
+-- `fields::put` meets its contract. The loop's invariant: all but `left` bytes are written. Assumes nothing.
+use mathlib.Core.Path.{_≡_, ap, _∙_}
 use Prim.Native.Nat.{ℕ, _-_, _≤_}
-use native.Mathlib.Numerals.{add-one}
 use native.Mathlib.Omega.{arith}
 use lib.ListN.{length}
 use Rattle.lists.specs.Lists.{overwrite}
@@ -14,19 +13,19 @@ use Rattle.fields.proofs.put.Reads as reads
 use Rattle.fields.proofs.put.Lts as lts
 
 abbrev Inv-loop : tie.InvT-loop
-Inv-loop output₀ at width number rest₀ i₀ output rest i = (i ≤ width) × Put output₀ at number output rest i
+Inv-loop output₀ at width number rest₀ left₀ output rest left = (left ≤ width) × Put output₀ at number output rest (width - left)
 
 abbrev μ-loop : tie.MeasureT-loop
-μ-loop output₀ at width number rest₀ i₀ output rest i = width - i
+μ-loop output₀ at width number rest₀ left₀ output rest left = left
 
 -- the output keeps its length
-written : (c : tie.In-loop Inv-loop μ-loop) → length (c .before .loop .output) ≡ length (c .before .before .args .output .now)
+written : (c : tie.At-loop Inv-loop μ-loop) → length (c .loop .output) ≡ length (c .before .args .output .now)
 written c =
-    let inv = c .before .loop .inv in
+    let inv = c .loop .inv in
     put-size _ _ _ _ _ _ (inv .1) (omega arith)
 
 loop-holds : tie.Need-loop-holds Inv-loop μ-loop
-loop-holds c = (omega arith, put-none _ _ _)
+loop-holds c = (omega arith, put-none _ _ _ _ (omega arith))
 
 cast-output : tie.Need-cast-output Inv-loop μ-loop
 cast-output c = search needs
@@ -34,27 +33,31 @@ cast-output c = search needs
 add-output : tie.Need-add-output Inv-loop μ-loop
 add-output c = search needs
 
-slice-write-output : tie.Need-slice-write-output Inv-loop μ-loop
-slice-write-output c = let size = written c in omega arith
+sub-output : tie.Need-sub-output Inv-loop μ-loop
+sub-output c = search needs
 
-add-i : tie.Need-add-i Inv-loop μ-loop
-add-i c = search needs
+slice-write-output : tie.Need-slice-write-output Inv-loop μ-loop
+slice-write-output c = omega (arith, written (c .before))
+
+sub-left : tie.Need-sub-left Inv-loop μ-loop
+sub-left c = search needs
 
 loop-less : tie.Need-loop-less Inv-loop μ-loop
 loop-less c = search needs
 
 loop-again : tie.Need-loop-again Inv-loop μ-loop
-loop-again c = let args = c .before .before .args in
+loop-again c =
+    let args = c .before .before .args in
     let loop = c .before .loop in
-    (omega arith, subst (Put (args .output .now) (args .at) (args .number) _ _) (sym (add-one (loop .i))) (put-more (args .output .now) (args .at) (args .number) (loop .output) (loop .rest) (loop .i) (loop .inv .1) (omega arith)))
+    (omega arith, put-more (args .output .now) (args .at) (args .number) (args .width) (loop .output) (loop .rest) (loop .left) (loop .inv .1) (loop .inv .0) (c .loop-test .taken) (c .before .before .pre))
 
 same-length : tie.Need-same-length Inv-loop μ-loop
-same-length c = let inv = c .before .loop .inv in
-    put-size _ _ _ _ _ _ (inv .1) (omega arith)
+same-length c = written (c .before)
 
 returns : tie.Need-returns Inv-loop μ-loop
-returns c = let args = c .before .before .args in
-    let whole : c .before .loop .i ≡ args .width = omega arith in
+returns c =
+    let args = c .before .before .args in
+    let whole : args .width - c .before .loop .left ≡ args .width = omega arith in
     c .before .loop .inv .1 .holds ∙ ap (λ (n : ℕ). overwrite (args .output .now) (args .at) (littleEndian n (args .number))) whole
 
 pub put-spec : {M : Type 1} → statement M
@@ -66,8 +69,9 @@ put-spec =
     loop-holds
     cast-output
     add-output
+    sub-output
     slice-write-output
-    add-i
+    sub-left
     loop-less
     loop-again
     same-length

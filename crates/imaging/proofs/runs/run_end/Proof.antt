@@ -32,7 +32,7 @@ returns : tie.Need-returns Inv-loop μ-loop
 returns c =
     let start = c .before .before .before .before .before .before .before in
     let loop = c .before .before .before .loop in
-    ended-by-other (start .args .weights .now) (start .args .sorted .now) (start .args .low) _ (loop .high) (loop .inv) (c .before .before .loop-test .taken) (λ e. c .if1 .taken (c .before .weight-of2 .ensures ∙ e))
+    ended-by-other (start .args .weights .now) (start .args .sorted .now) (start .args .low) _ (loop .high) (loop .inv) (λ e. c .if1 .taken (c .before .weight-of2 .ensures ∙ e))
 
 add-high-2 : tie.Need-add-high-2 Inv-loop μ-loop
 add-high-2 c = search needs

@@ -10,7 +10,7 @@ use Rattle.lists.specs.Lists.{nonzero, All, Rising, risesB, every}
 use Rattle.lists.proofs.Tests.{by-test, and-false-right, and-both, and-left, and-right, nonzero-when, nonzero-says, zero-fails}
 use Rattle.lists.proofs.Keep.{all-map, every-when, every-says}
 use Rattle.lists.proofs.Rising.{rises-says}
-use Rattle.calls.specs.Reasons.{risingKeys}
+use Rattle.table.specs.Contents.{risingKeys}
 
 pub no-keys : (list : List ℕ) → length list ≡ 0 → true ≡ risingKeys list
 unfolding risingKeys
