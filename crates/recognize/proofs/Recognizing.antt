@@ -3,7 +3,7 @@ use mathlib.Core.Bool.{Bool, true, false, cond, _&&_}
 use mathlib.Core.List.{List}
 use mathlib.Core.Logic.{_≢_}
 use mathlib.Core.Path.{_≡_, refl, sym, ap, _∙_, subst}
-use Prim.Native.Nat.{ℕ, _≤_}
+use Prim.Native.Nat.{ℕ, _<_, _≤_}
 use native.Mathlib.Omega.{arith}
 use lib.Dec.{leb, ltb}
 use lib.ListN.{length, take, drop}
@@ -23,7 +23,9 @@ use Rattle.decode.proofs.RisingKeys.{rising-says}
 use Rattle.assemble.specs.Assemble.{Keys}
 use Rattle.image.specs.Layout.{headerBytes, orderAt}
 use Rattle.image.specs.Image.{imageOf, fieldAt, readImage, isImage}
-use Rattle.image.proofs.Judging.{is-image-exactly}
+use Rattle.image.proofs.Judging.{is-image-says, is-image-exactly}
+use Rattle.image.proofs.Bytes.{IsByte}
+use Rattle.image.proofs.Lengths.{image-longest}
 use Rattle.imaging.specs.Written.{writtenTo}
 use Rattle.reading.specs.Reading.{readable, intact, keysOf, blocksOf, collected}
 use Rattle.reading.specs.declared.Collected.{Collected}
@@ -50,7 +52,7 @@ module _ (bytes : List ℕ) where
   shown-image = refl
 
   -- ---- bytes that are no image
-  pub other : isImage bytes ≡ false → Other ≡ recognized bytes
+  other : isImage bytes ≡ false → Other ≡ recognized bytes
   unfolding recognized
   other e = rw e
 
@@ -85,6 +87,20 @@ module _ (bytes : List ℕ) where
       (and-right (leb (length ks) mostSlots) _
       (and-right (every nonzero ks) _ (and-right (risesB ks) _ (and-right (tableOrder (readImage bytes .order)) _ t))))
       e)
+
+  pub too-long : All IsByte bytes → 180239 < length bytes → isImage bytes ≡ false
+  too-long sized h =
+      refuted
+      (λ t.
+      let right = is-image-says bytes t sized in
+      let same-length = ap length (right .1) in
+      let longest = image-longest (readImage bytes) (right .0) in
+      omega arith)
+
+  -- what is answered of them
+  pub stop : isImage bytes ≡ false → (before after : List ℕ)
+      → (Other ≡ recognized bytes) × (isImage bytes ≡ true → after ≡ overwrite before 0 (readImage bytes .keys))
+  stop e before after = (other e, λ t. absurd (true-or-false (isImage bytes) t e))
 
   -- ---- bytes that are one
   module _ (order : lies leastOrder greatestOrder orderShown ≡ true) (rise : risingKeys (readImage bytes .keys) ≡ true) (few : length (readImage bytes .keys) ≤ mostSlots) where

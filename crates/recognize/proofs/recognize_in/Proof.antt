@@ -9,7 +9,6 @@ use lib.ListN.{length, take}
 use lib.Seq.{length-take-le}
 use borrow.Author.Tests.{not-true, not-false}
 use Rattle.lists.specs.Lists.{All, overwrite, sortBy, same, lies}
-use Rattle.lists.proofs.Tests.{true-or-false}
 use Rattle.lists.proofs.Keep.{all-of-entries}
 use Rattle.lists.proofs.Start.{starts-with, as-long}
 use Rattle.priority.specs.Priority.{priorityOf}
@@ -23,9 +22,7 @@ use Rattle.image.specs.Image.{imageOf, readImage, isImage}
 use Rattle.image.proofs.Bytes.{IsByte}
 use Rattle.reading.specs.Reading.{readable, keysOf}
 use Rattle.reading.proofs.Readable.{unreadable}
-use Rattle.recognize.specs.declared.Recognized.the-variants.{Other}
-use Rattle.recognize.specs.Recognize.{recognized}
-use Rattle.recognize.proofs.Recognizing.{orderShown, shown-image, other, wrong-order, not-rising, wrong-length, differs, can-be-written, is-one, accepted, told-readable, told-broken, told-number, readable-header, readable-few, sorted-shown, shown-size, written-over}
+use Rattle.recognize.proofs.Recognizing.{orderShown, shown-image, stop, wrong-order, not-rising, wrong-length, differs, can-be-written, is-one, accepted, told-readable, told-broken, told-number, readable-header, readable-few, sorted-shown, shown-size, written-over}
 use borrow.Author.Needs.{needs}
 use Rattle.recognize.proofs.recognize_in.Statement.{statement}
 use Rattle.recognize.proofs.recognize_in.Tie as tie
@@ -48,11 +45,6 @@ bytes q = begun q .args .image .now
 
 byte-sized : (q : tie.After-collect) → All IsByte (bytes q)
 byte-sized q = all-of-entries IsByte (bytes q) 0 (λ i. omega (arith, q .before .before .before .before .before .before .before .before .shared-slice-known .given i))
-
--- what is no image is answered so
-stop : (words before after : List ℕ) → isImage words ≡ false
-    → (Other ≡ recognized words) × (isImage words ≡ true → after ≡ overwrite before 0 (readImage words .keys))
-stop words before after e = (other words e, λ t. absurd (true-or-false (isImage words) t e))
 
 -- ---- where the records can be read
 abbrev read-at : tie.After-found → tie.After-collect
@@ -193,8 +185,9 @@ returns c =
     let q = c .before .before .before .before in
     let start = begun q in
     let lacking = told-broken (length (start .args .held .now)) (bytes q) (sym (q .collect .ensures .0) ∙ c .enum-told .given .1) in
-    stop (bytes q) (start .args .keys .now) (start .args .keys .now)
+    stop (bytes q)
     (unreadable (bytes q) (byte-sized q) (subst (λ (room : ℕ). readable room (bytes q) ≡ false) (start .pre .0) lacking))
+    (start .args .keys .now) (start .args .keys .now)
 
 get-requires : tie.Need-get-requires
 get-requires c κs = (omega (arith, has-header (c .before)), omega arith)
@@ -209,9 +202,10 @@ returns-2 : tie.Need-returns-2
 returns-2 c =
     let w = c .before in
     let q = read-at (w .before .before .before) in
-    stop (bytes q) (begun q .args .keys .now) (begun q .args .keys .now)
+    stop (bytes q)
     (wrong-order (bytes q)
     (ap (lies leastOrder greatestOrder) (sym (w .before .get .ensures)) ∙ sym (w .is-within .ensures) ∙ not-true (w .is-within .result) (c .if1 .taken)))
+    (begun q .args .keys .now) (begun q .args .keys .now)
 
 sort-keys-requires : tie.Need-sort-keys-requires
 sort-keys-requires c κs =
@@ -247,8 +241,9 @@ returns-3 : tie.Need-returns-3
 returns-3 c =
     let q = c .before .before .before .before .before .before .before .before .before .before .before in
     let r = read-at (at q) in
-    stop (bytes r) (lent-keys (at q)) (sorted q)
+    stop (bytes r)
     (not-rising (bytes r) (sym (c .before .is-rising .ensures ∙ ap risingKeys (taken q)) ∙ not-true (c .before .is-rising .result) (c .if2 .taken)))
+    (lent-keys (at q)) (sorted q)
 
 slice-reshare-prefix-write : tie.Need-slice-reshare-prefix-write
 slice-reshare-prefix-write c = inside (sorted-at c)
@@ -285,8 +280,9 @@ returns-4 : tie.Need-returns-4
 returns-4 c =
     let w = c .before .before .before in
     let r = read-at (there w) in
-    stop (bytes r) (lent-keys (there w)) (sorted (sorted-at (risen-at w)))
+    stop (bytes r)
     (wrong-length (bytes r) (λ e. c .if3 .taken (written-size w ∙ e)))
+    (lent-keys (there w)) (sorted (sorted-at (risen-at w)))
 
 same-bytes-requires : tie.Need-same-bytes-requires
 same-bytes-requires c κs = search needs
@@ -314,9 +310,10 @@ returns-5 c =
     let p = c .before .before .before in
     let w = p .before .before .before in
     let r = read-at (there w) in
-    stop (bytes r) (lent-keys (there w)) (sorted (sorted-at (risen-at w)))
+    stop (bytes r)
     (differs (bytes r)
     (ap (same (bytes r)) (sym (copied-is p)) ∙ sym (c .before .same-bytes .ensures) ∙ not-true (c .before .same-bytes .result) (c .if4 .taken)))
+    (lent-keys (there w)) (sorted (sorted-at (risen-at w)))
 
 same-length-20 : tie.Need-same-length-20
 same-length-20 c = search needs

@@ -1,0 +1,48 @@
+-- `recognize::recognize` meets its contract. Assumes nothing.
+use native.Mathlib.Omega.{arith}
+use Rattle.lists.proofs.Keep.{all-of-entries}
+use Rattle.image.proofs.Bytes.{IsByte}
+use Rattle.recognize.proofs.Recognizing.{stop, too-long}
+use borrow.Author.Needs.{needs}
+use Rattle.recognize.proofs.recognize.Statement.{statement}
+use Rattle.recognize.proofs.recognize.Tie as tie
+use Rattle.recognize.proofs.recognize.Reads as reads
+use Rattle.recognize.proofs.recognize.Lts as lts
+use Rattle.recognize.proofs.recognize_long.Reads as recognize-long-reads
+use Rattle.recognize.proofs.recognize_short.Reads as recognize-short-reads
+
+returns : tie.Need-returns
+returns c =
+    let args = c .before .before .before .args in
+    let bytes = args .image .now in
+    stop bytes (too-long bytes (all-of-entries IsByte bytes 0 (λ i. omega (arith, c .before .before .shared-slice-known .given i))) (c .if1 .taken)) (args .keys .now) (args .keys .now)
+
+recognize-short-requires : tie.Need-recognize-short-requires
+recognize-short-requires c κs = search needs
+
+same-length : tie.Need-same-length
+same-length c = search needs
+
+returns-2 : tie.Need-returns-2
+returns-2 c = search needs
+
+recognize-long-requires : tie.Need-recognize-long-requires
+recognize-long-requires c κs = search needs
+
+same-length-2 : tie.Need-same-length-2
+same-length-2 c = search needs
+
+returns-3 : tie.Need-returns-3
+returns-3 c = search needs
+
+pub recognize-spec : {M : Type 1} → statement M
+recognize-spec =
+    tie.close
+    (tie.spec
+    returns
+    recognize-short-requires
+    same-length
+    returns-2
+    recognize-long-requires
+    same-length-2
+    returns-3)
