@@ -1,0 +1,38 @@
+-- `images::read` meets its contract. Assumes nothing.
+use mathlib.Core.Path.{sym, _∙_}
+use native.Mathlib.Omega.{arith}
+use lib.ListN.{length}
+use Rattle.judge.proofs.Lengths.{slots-for-some}
+use Rattle.images.proofs.Reading.{refused-length}
+use borrow.Author.Needs.{needs}
+use Rattle.images.proofs.read.Statement.{statement}
+use Rattle.images.proofs.read.Tie as tie
+use Rattle.images.proofs.read.Reads as reads
+use Rattle.images.proofs.read.Lts as lts
+use Rattle.images.proofs.read_lent.Reads as read-lent-reads
+use Rattle.judge.proofs.slots_for.Reads as slots-for-reads
+
+slots-for-requires : tie.Need-slots-for-requires
+slots-for-requires c κs = search needs
+
+returns : tie.Need-returns
+returns c =
+    let args = c .before .before .before .before .args in
+    refused-length (args .table .now) (args .image .now) (sym (c .before .slots-for .ensures) ∙ c .if1 .taken)
+
+read-lent-requires : tie.Need-read-lent-requires
+read-lent-requires c κs =
+    let words = c .before .before .before .before .before .args .table .now in
+    let here = c .before .before .slots-for .ensures in
+    let right = slots-for-some (length words) (λ e. c .before .if1 .left (here ∙ e)) in
+    (omega (arith, here, right .some), omega (arith, here, right .within), omega (arith, here, right .long))
+
+same-length : tie.Need-same-length
+same-length c = search needs
+
+returns-2 : tie.Need-returns-2
+returns-2 c = search needs
+
+pub read-spec : {M : Type 1} → statement M
+read-spec =
+    tie.close (tie.spec slots-for-requires returns read-lent-requires same-length returns-2)
