@@ -1,0 +1,95 @@
+-- What is claimed of whole histories; the files of `proofs` prove it. Assumes nothing.
+use mathlib.Core.List.{List, [], _∷_}
+use mathlib.Core.Logic.{_↔_}
+use mathlib.Core.Path.{_≡_}
+use Prim.Native.Nat.{ℕ, _≤_}
+use lib.ListN.{length, take, getD}
+use Rattle.lists.specs.Lists.{member}
+use Rattle.table.specs.Layout.{mostSlots, tableWords}
+use Rattle.table.specs.Contents.{Contents, Valid}
+use Rattle.table.specs.Table.{fresh, Sound}
+use Rattle.image.specs.Image.{imageOf}
+use Rattle.calls.specs.Calls.{setUpRefusal, writeRefusal, writeReply, writeOutput}
+use Rattle.steps.specs.Steps.{stepPlace}
+use Rattle.steps.specs.declared.Place.{Place}
+use Rattle.history.specs.Call.{Call, History, callsOf, runs, reply, output}
+use Rattle.history.specs.Book.{notes, bookOf, replyBy, outputBy, placeBy}
+
+-- "A table has M slots, M from 1 to 4,096, and lives in lent 64-bit words, 3 + 6·M of them": any words of that number.
+pub record Table (many : ℕ) (words : List ℕ) : Type 0 where
+  pub some : 1 ≤ many
+  pub most : many ≤ mostSlots
+  pub long : length words ≡ tableWords many
+
+-- The same order and the same set of keys.
+abbrev pub Agree : Contents → Contents → Type 0
+Agree c d = (c .order ≡ d .order) × ((key : ℕ) → member key (c .keys) ≡ member key (d .keys))
+
+-- The words of a table of M slots after a history, and its book.
+abbrev pub tableAfter : History → List ℕ → List ℕ
+tableAfter history words = runs (callsOf history) words
+
+abbrev pub bookAfter : ℕ → History → Contents
+bookAfter many history = bookOf many (callsOf history)
+
+-- ---- Demand 3
+-- After every history, over any words, the table is in every word the one built afresh from its book's order and set, which has at
+-- most M keys.
+abbrev pub TableFromBook : Type 0
+TableFromBook =
+    (many : ℕ) (words : List ℕ) (history : History) → Table many words
+    → (tableAfter history words ≡ fresh many (bookAfter many history)) × Valid many (bookAfter many history)
+
+-- After two histories on equally many slots, over any words each, the tables agree in every word exactly when their books agree in
+-- order and set.
+abbrev pub TablesAgree : Type 0
+TablesAgree =
+    (many : ℕ) (words others : List ℕ) (one another : History) → Table many words → Table many others
+    → ((tableAfter one words ≡ tableAfter another others) ↔ Agree (bookAfter many one) (bookAfter many another))
+
+-- "A table's image is the output of an accepted writing, as long as the reply says".
+abbrev pub writtenImage : List ℕ → List ℕ → List ℕ
+writtenImage words lent = take (getD (writeReply words lent .numbers) 0 0) (writeOutput words lent)
+
+-- "and byte for byte what the section Image lays down."
+abbrev pub ImageWritten : Type 0
+ImageWritten = (words lent : List ℕ) (sound : Sound words) → writeRefusal words lent ≡ 0 → writtenImage words lent ≡ imageOf (sound .contents)
+
+-- Of every two sound tables, of any numbers of slots, the images agree in every byte exactly when the tables agree in order and set.
+abbrev pub ImagesAgree : Type 0
+ImagesAgree =
+    (words others lent room : List ℕ) (sound : Sound words) (right : Sound others) → writeRefusal words lent ≡ 0 → writeRefusal others room ≡ 0
+    → ((writtenImage words lent ≡ writtenImage others room) ↔ Agree (sound .contents) (right .contents))
+
+-- After two histories, on any numbers of slots, the images agree exactly when the books do.
+abbrev pub HistoriesImagesAgree : Type 0
+HistoriesImagesAgree =
+    (many number : ℕ) (words others lent room : List ℕ) (one another : History) → Table many words → Table number others
+    → writeRefusal (tableAfter one words) lent ≡ 0 → writeRefusal (tableAfter another others) room ≡ 0
+    → ((writtenImage (tableAfter one words) lent ≡ writtenImage (tableAfter another others) room)
+    ↔ Agree (bookAfter many one) (bookAfter number another))
+
+-- "Demand 3 is a single claim about whole histories".
+pub record HistoryIndependence : Type 0 where
+  pub table-from-book : TableFromBook
+  pub tables-agree : TablesAgree
+  pub image-written : ImageWritten
+  pub images-agree : ImagesAgree
+  pub histories-images-agree : HistoriesImagesAgree
+
+-- ---- Demand 2, over histories: after every history each call, whatever it is handed, answers what the book says
+pub record Answers (many : ℕ) (words : List ℕ) (book : Contents) : Type 0 where
+  pub replies : (call : Call) → reply call words ≡ replyBy many call book
+  pub outputs : (call : Call) → output call words ≡ outputBy many call book
+  pub places : (place : Place) → stepPlace words place ≡ placeBy place book
+
+abbrev pub AnswersFromBook : Type 0
+AnswersFromBook = (many : ℕ) (words : List ℕ) (history : History) → Table many words → Answers many (tableAfter history words) (bookAfter many history)
+
+-- ---- the beginning of a history
+-- A history's first call is accepted, over any words; and what the book held before it does not matter.
+abbrev pub FirstAccepted : Type 0
+FirstAccepted = (many : ℕ) (words : List ℕ) (history : History) → Table many words → setUpRefusal words (history .order) ≡ 0
+
+abbrev pub AnyStart : Type 0
+AnyStart = (many : ℕ) (history : History) (before : Contents) → notes many (callsOf history) before ≡ bookAfter many history
