@@ -5,6 +5,7 @@ use mathlib.Core.Path.{_≡_, refl, sym, ap, _∙_}
 use Prim.Native.Nat.{ℕ, _≤_}
 use native.Mathlib.Omega.{arith}
 use lib.ListN.{length}
+use borrow.Author.Tests.{ltb-false, le-ltb}
 use Rattle.lists.specs.Lists.{member}
 use Rattle.lists.proofs.Membership.{all-of-members}
 use Rattle.lists.proofs.Rising.{rising-unique}
@@ -14,10 +15,14 @@ use Rattle.table.specs.Contents.{Contents, Valid}
 use Rattle.table.specs.Table.{Sound}
 use Rattle.image.specs.Image.{imageOf}
 use Rattle.image.proofs.Reading.{image-unique}
-use Rattle.calls.specs.Reasons.{shown}
+use Rattle.calls.specs.Reasons.{outputTooShort, shown}
 use Rattle.calls.specs.Calls.{writeRefusal, writeReply, writeOutput}
-use Rattle.history.specs.Theorems.{Agree, writtenImage, ImageWritten, ImagesAgree}
+use Rattle.history.specs.Call.{writing}
+use Rattle.history.specs.Book.{reasons, refusalBy}
+use Rattle.history.specs.Theorems.{Agree, AgreeAsLists, WritingAccepted, writtenImage, ImageWritten, ImagesAgree}
+use Rattle.history.proofs.Refusals.{none-applies}
 use Rattle.history.proofs.Shows.{sound-shows}
+use Rattle.history.proofs.Refused.{writing-refused}
 
 -- ---- order and set
 pub same-agree : (c d : Contents) → c ≡ d → Agree c d
@@ -31,6 +36,12 @@ agree-same many number c d valid right agree =
     (all-of-members (λ key. member key (c .keys) ≡ true) (d .keys) (λ key m. agree .1 key ∙ m))
     in
     λ i. record { order = agree .0 i; keys = same-keys i }
+
+pub agree-as-lists : AgreeAsLists
+agree-as-lists many number c d valid right = (
+  λ agree. let same = agree-same many number c d valid right agree in (agree .0, ap (λ (b : Contents). b .keys) same),
+  λ same. same-agree c d (λ i. record { order = same .0 i; keys = same .1 i }),
+)
 
 -- ---- images
 -- contents of a table may stand in an image
@@ -46,6 +57,16 @@ within-most many c most valid =
 shown-written : (words lent : List ℕ) → writeRefusal words lent ≡ 0 → writtenImage words lent ≡ imageOf (shown words)
 unfolding writeReply writeOutput
 shown-written words lent e = rw e (starts-with _ lent (imageOf (shown words)) (length (imageOf (shown words))) refl refl)
+
+pub writing-accepted : WritingAccepted
+unfolding refusalBy outputTooShort
+writing-accepted words lent sound =
+    let table = sound-shows words sound in
+    let long = length (imageOf (sound .contents)) in
+    let refused = writing-refused (sound .many) words (sound .contents) table lent in (
+      λ e. ltb-false (length lent) long (none-applies (reasons (sound .many) (writing lent) (sound .contents)) (omega arith) (sym refused ∙ e) .0),
+      λ (room : long ≤ length lent). refused ∙ rw (le-ltb (length lent) long room),
+    )
 
 pub image-written : ImageWritten
 image-written words lent sound e = shown-written words lent e ∙ ap imageOf (sound-shows words sound .holds)

@@ -3,7 +3,7 @@
 use mathlib.Core.Bool.{true, false}
 use mathlib.Core.List.{List}
 use mathlib.Core.Logic.{_≢_}
-use mathlib.Core.Path.{_≡_, sym, ap, ap₂, _∙_}
+use mathlib.Core.Path.{_≡_, refl, sym, ap, _∙_}
 use Prim.Native.Nat.{ℕ, _^_, _≤_, _<_}
 use native.Mathlib.Omega.{arith}
 use lib.ListN.{length}
@@ -29,27 +29,26 @@ use Rattle.history.proofs.Refused.{set-up-refused, build-refused, readi
 -- ---- the table
 module _ (many : ℕ) (words : List ℕ) (book : Contents) (table : Shows many words book) where
   -- what a call that writes the table of some contents, unless it is refused, leaves
-  written : (number : ℕ) (c : Contents) → unlessRefused number (rewritten words c) words ≡ fresh many (unlessRefused number c book)
+  written : (number other : ℕ) (c d : Contents) → number ≡ other → c ≡ d
+      → unlessRefused number (rewritten words c) words ≡ fresh many (unlessRefused other d book)
   unfolding rewritten
-  written number c =
-      ap₂ (λ (slots : ℕ) (old : List ℕ). unlessRefused number (fresh slots c) old) (table .slots) (table .exactly)
-      ∙ refused-through (fresh many) number c book
+  written number other c d e f = rw (e, f, table .slots, table .exactly) (refused-through (fresh many) other d book)
 
   -- what a call that writes no word leaves
-  unwritten : (number : ℕ) → words ≡ fresh many (unlessRefused number book book)
-  unwritten number = table .exactly ∙ ap (fresh many) (sym (both-same number book))
+  unwritten : (call : Call) → words ≡ fresh many (unlessRefused (refusalBy many call book) book book)
+  unwritten call = table .exactly ∙ ap (fresh many) (sym (both-same (refusalBy many call book) book))
 
   pub run-notes : (call : Call) → run call words ≡ fresh many (note many call book)
   unfolding note setUpAfter buildAfter readAfter insertAfter deleteAfter grown shrunk
-  run-notes (setUp order) = rw (set-up-refused many words book table order) (written (refusalBy many (setUp order) book) (blank order))
-  run-notes (build order list) = rw (build-refused many words book table order list) (written (refusalBy many (build order list) book) (listed order list))
-  run-notes (reading bytes) = rw (reading-refused many words book table bytes) (written (refusalBy many (reading bytes) book) (readImage bytes))
-  run-notes (insert key) = rw (insert-refused many words book table key, table .holds) (written (refusalBy many (insert key) book) (withKey key book))
-  run-notes (delete key) = rw (delete-refused many words book table key, table .holds) (written (refusalBy many (delete key) book) (withoutKey key book))
-  run-notes (lookup key) = unwritten (refusalBy many (lookup key) book)
-  run-notes (range low high lent) = unwritten (refusalBy many (range low high lent) book)
-  run-notes (writing lent) = unwritten (refusalBy many (writing lent) book)
-  run-notes (step place) = unwritten (refusalBy many (step place) book)
+  run-notes (setUp order) = written _ _ (blank order) _ (set-up-refused many words book table order) refl
+  run-notes (build order list) = written _ _ (listed order list) _ (build-refused many words book table order list) refl
+  run-notes (reading bytes) = written _ _ (readImage bytes) _ (reading-refused many words book table bytes) refl
+  run-notes (insert key) = written _ _ (grown words key) _ (insert-refused many words book table key) (ap (withKey key) (table .holds))
+  run-notes (delete key) = written _ _ (shrunk words key) _ (delete-refused many words book table key) (ap (withoutKey key) (table .holds))
+  run-notes (lookup key) = unwritten (lookup key)
+  run-notes (range low high lent) = unwritten (range low high lent)
+  run-notes (writing lent) = unwritten (writing lent)
+  run-notes (step place) = unwritten (step place)
 
 -- ---- the book
 pub blank-valid : (many order : ℕ) → newOrder order ≡ true → Valid many (blank order)

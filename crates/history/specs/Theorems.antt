@@ -1,19 +1,21 @@
 -- What is claimed of whole histories; the files of `proofs` prove it. Assumes nothing.
-use mathlib.Core.List.{List, [], _∷_}
+use mathlib.Core.Bool.{true, not, _&&_, _||_}
+use mathlib.Core.List.{List}
 use mathlib.Core.Logic.{_↔_}
 use mathlib.Core.Path.{_≡_}
 use Prim.Native.Nat.{ℕ, _≤_}
+use lib.Dec.{eqb}
 use lib.ListN.{length, take, getD}
-use Rattle.lists.specs.Lists.{member}
+use Rattle.lists.specs.Lists.{All, member}
 use Rattle.table.specs.Layout.{mostSlots, tableWords}
 use Rattle.table.specs.Contents.{Contents, Valid}
 use Rattle.table.specs.Table.{fresh, Sound}
-use Rattle.image.specs.Image.{imageOf}
+use Rattle.image.specs.Image.{imageOf, readImage, isImage}
 use Rattle.calls.specs.Calls.{setUpRefusal, writeRefusal, writeReply, writeOutput}
 use Rattle.steps.specs.Steps.{stepPlace}
 use Rattle.steps.specs.declared.Place.{Place}
-use Rattle.history.specs.Call.{Call, History, callsOf, runs, reply, output}
-use Rattle.history.specs.Book.{notes, bookOf, replyBy, outputBy, placeBy}
+use Rattle.history.specs.Call.{Call, IsByte, History, callsOf, runs, reply, output}
+use Rattle.history.specs.Book.{withKey, withoutKey, notes, bookOf, replyBy, outputBy, placeBy}
 
 -- "A table has M slots, M from 1 to 4,096, and lives in lent 64-bit words, 3 + 6·M of them": any words of that number.
 pub record Table (many : ℕ) (words : List ℕ) : Type 0 where
@@ -93,3 +95,25 @@ FirstAccepted = (many : ℕ) (words : List ℕ) (history : History) → Table ma
 
 abbrev pub AnyStart : Type 0
 AnyStart = (many : ℕ) (history : History) (before : Contents) → notes many (callsOf history) before ≡ bookAfter many history
+
+-- ---- what the claims stand on
+-- Order and set agree exactly when order and rising list do.
+abbrev pub AgreeAsLists : Type 0
+AgreeAsLists =
+    (many number : ℕ) (c d : Contents) → Valid many c → Valid number d → (Agree c d ↔ ((c .order ≡ d .order) × (c .keys ≡ d .keys)))
+
+-- The writing of a sound table is accepted exactly when the output has room for the image.
+abbrev pub WritingAccepted : Type 0
+WritingAccepted =
+    (words lent : List ℕ) (sound : Sound words) → ((writeRefusal words lent ≡ 0) ↔ (length (imageOf (sound .contents)) ≤ length lent))
+
+-- The book's entries are what document 01 calls them.
+pub record Entries : Type 0 where
+  -- "the key joins the set"
+  pub joins : (key other : ℕ) (book : Contents) → member other (withKey key book .keys) ≡ (eqb other key || member other (book .keys))
+  -- "the key leaves it"
+  pub leaves : (key other : ℕ) (book : Contents) → member other (withoutKey key book .keys) ≡ (not (eqb other key) && member other (book .keys))
+  -- "the order and set whose image the bytes are", where 6 does not apply
+  pub reads : (bytes : List ℕ) → All IsByte bytes → isImage bytes ≡ true → Valid mostSlots (readImage bytes) × (bytes ≡ imageOf (readImage bytes))
+  -- 6 does not apply to an image "that the writer makes for any order and any set of at most 4,096 keys", and that order and set are read
+  pub read-back : (c : Contents) → Valid mostSlots c → (isImage (imageOf c) ≡ true) × (readImage (imageOf c) ≡ c)
