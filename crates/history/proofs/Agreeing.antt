@@ -12,7 +12,6 @@ use Rattle.lists.proofs.Rising.{rising-unique}
 use Rattle.lists.proofs.Start.{starts-with}
 use Rattle.table.specs.Layout.{mostSlots}
 use Rattle.table.specs.Contents.{Contents, Valid}
-use Rattle.table.specs.Table.{Sound}
 use Rattle.image.specs.Image.{imageOf}
 use Rattle.image.proofs.Reading.{image-unique}
 use Rattle.calls.specs.Reasons.{outputTooShort, shown}
@@ -28,8 +27,8 @@ use Rattle.history.proofs.Refused.{writing-refused}
 pub same-agree : (c d : Contents) → c ≡ d → Agree c d
 same-agree c d e = (ap (λ (b : Contents). b .order) e, λ key. ap (λ (b : Contents). member key (b .keys)) e)
 
-pub agree-same : (many number : ℕ) (c d : Contents) → Valid many c → Valid number d → Agree c d → c ≡ d
-agree-same many number c d valid right agree =
+pub agree-same : (many several : ℕ) (c d : Contents) → Valid many c → Valid several d → Agree c d → c ≡ d
+agree-same many several c d valid right agree =
     let same-keys : c .keys ≡ d .keys =
     rising-unique (c .keys) (d .keys) (valid .keys-rise) (right .keys-rise)
     (all-of-members (λ key. member key (d .keys) ≡ true) (c .keys) (λ key m. sym (agree .1 key) ∙ m))
@@ -38,8 +37,8 @@ agree-same many number c d valid right agree =
     λ i. record { order = agree .0 i; keys = same-keys i }
 
 pub agree-as-lists : AgreeAsLists
-agree-as-lists many number c d valid right = (
-  λ agree. let same = agree-same many number c d valid right agree in (agree .0, ap (λ (b : Contents). b .keys) same),
+agree-as-lists many several c d valid right = (
+  λ agree. let same = agree-same many several c d valid right agree in (agree .0, ap (λ (b : Contents). b .keys) same),
   λ same. same-agree c d (λ i. record { order = same .0 i; keys = same .1 i }),
 )
 

@@ -1,6 +1,5 @@
 -- The claims of `specs/Theorems`, proved. Assumes nothing.
-use mathlib.Core.Path.{_≡_, sym, ap, _∙_}
-use Prim.Native.Nat.{ℕ}
+use mathlib.Core.Path.{sym, ap, _∙_}
 use Rattle.table.specs.Table.{fresh}
 use Rattle.table.proofs.Reading.{fresh-unique}
 use Rattle.history.specs.Theorems.{TablesAgree, HistoriesImagesAgree, HistoryIndependence, AnswersFromBook, tableAfter, bookAfter}
@@ -20,8 +19,8 @@ tables-agree many words others one another table second =
     )
 
 pub histories-images-agree : HistoriesImagesAgree
-histories-images-agree many number words others lent room one another table second accepted e =
-    images-agree (tableAfter one words) (tableAfter another others) lent room (sound-after many words one table) (sound-after number others another second) accepted e
+histories-images-agree many several words others lent room one another table second accepted e =
+    images-agree (tableAfter one words) (tableAfter another others) lent room (sound-after many words one table) (sound-after several others another second) accepted e
 
 -- Demand 3
 pub history-independence : HistoryIndependence

@@ -5,10 +5,9 @@ use mathlib.Core.List.{List, [], _∷_}
 use mathlib.Core.Path.{_≡_, refl, ap, _∙_}
 use Prim.Native.Nat.{ℕ}
 use lib.Dec.{eqb, ltb}
-use Rattle.lists.specs.Lists.{member, insertBy}
+use Rattle.lists.specs.Lists.{member}
 use Rattle.lists.proofs.Tests.{by-test}
 use Rattle.lists.proofs.Membership.{member-keep}
-use Rattle.table.specs.Contents.{Contents}
 use Rattle.image.proofs.Reading.{read-of-image}
 use Rattle.image.proofs.Judging.{is-image-says, image-passes}
 use Rattle.edit.specs.Edit.{joined, without}

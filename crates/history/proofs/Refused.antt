@@ -6,7 +6,7 @@ use Rattle.table.specs.Contents.{Contents}
 use Rattle.calls.specs.Reasons.{wrongLength, notSound, keyHeld, keyAbsent, tooManyKeys}
 use Rattle.calls.specs.Calls.{grown, setUpRefusal, buildRefusal, insertRefusal, deleteRefusal, lookupRefusal, rangeRefusal, writeRefusal, readRefusal}
 use Rattle.steps.specs.Steps.{stepRefusal}
-use Rattle.history.specs.Call.{Call, setUp, build, reading, insert, delete, lookup, range, writing}
+use Rattle.history.specs.Call.{setUp, build, reading, insert, delete, lookup, range, writing}
 use Rattle.history.specs.Book.{refusalBy}
 use Rattle.history.proofs.Shows.{Shows}
 

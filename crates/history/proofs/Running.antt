@@ -3,16 +3,20 @@ use mathlib.Core.Bool.{true}
 use mathlib.Core.List.{List, [], _∷_}
 use mathlib.Core.Path.{_≡_, sym, ap, _∙_}
 use Prim.Native.Nat.{ℕ, _≤_}
+use native.Mathlib.Omega.{arith}
+use borrow.Author.Tests.{not-false}
 use Rattle.lists.specs.Lists.{All}
 use Rattle.table.specs.Layout.{mostSlots}
 use Rattle.table.specs.Contents.{Contents, Valid, newOrder}
 use Rattle.table.specs.Table.{fresh, Sound}
+use Rattle.replies.specs.Replies.{lowest}
 use Rattle.calls.specs.Reasons.{wrongLength, wrongOrder}
 use Rattle.calls.specs.Calls.{rewritten, setUpRefusal, setUpAfter}
 use Rattle.calls.proofs.Judged.{slots-here, right-length}
 use Rattle.history.specs.Call.{Call, setUp, Lent, run, runs, History, callsOf}
 use Rattle.history.specs.Book.{blank, refusalBy, note, notes}
 use Rattle.history.specs.Theorems.{Table, TableFromBook, FirstAccepted, AnyStart, tableAfter, bookAfter}
+use Rattle.history.proofs.Refusals.{none-applies}
 use Rattle.history.proofs.Shows.{shows}
 use Rattle.history.proofs.Entering.{run-notes, blank-valid, note-valid}
 
@@ -26,14 +30,26 @@ module _ (many : ℕ) (some : 1 ≤ many) (most : many ≤ mostSlots) where
       (run-notes many words book (shows many words book some most valid e) call)
 
 -- ---- the first call
+module _ (many : ℕ) (words : List ℕ) (order : ℕ) (table : Table many words) where
+  refused-by-order : setUpRefusal words order ≡ lowest (wrongOrder order ∷ [])
+  unfolding setUpRefusal wrongLength
+  refused-by-order = rw (right-length words many (table .some) (table .most) (table .long))
+
+  accepted-when : newOrder order ≡ true → setUpRefusal words order ≡ 0
+  unfolding wrongOrder
+  accepted-when right = refused-by-order ∙ rw right
+
+  accepted-says : setUpRefusal words order ≡ 0 → newOrder order ≡ true
+  unfolding wrongOrder
+  accepted-says e = not-false (newOrder order) (none-applies (wrongOrder order ∷ []) (omega arith) (sym refused-by-order ∙ e) .0)
+
 pub first-accepted : FirstAccepted
-unfolding setUpRefusal wrongLength wrongOrder
-first-accepted many words history table = rw (right-length words many (table .some) (table .most) (table .long), history .accepted)
+first-accepted many words order table = (accepted-says many words order table, accepted-when many words order table)
 
 first-leaves : (many : ℕ) (words : List ℕ) (history : History) → Table many words → setUpAfter words (history .order) ≡ fresh many (blank (history .order))
 unfolding setUpAfter rewritten
 first-leaves many words history table =
-    rw (first-accepted many words history table, slots-here words many (table .some) (table .most) (table .long))
+    rw (accepted-when many words (history .order) table (history .accepted), slots-here words many (table .some) (table .most) (table .long))
 
 first-noted : (many : ℕ) (history : History) (before : Contents) → note many (setUp (history .order)) before ≡ blank (history .order)
 unfolding note refusalBy wrongOrder

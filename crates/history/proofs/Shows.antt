@@ -1,11 +1,11 @@
 -- What the fresh table of a book tells a call: how many slots it has, that it is sound, and the book. Assumes a valid book.
 use mathlib.Core.Bool.{true, false}
 use mathlib.Core.List.{List}
-use mathlib.Core.Path.{_≡_, refl, ap, _∙_}
+use mathlib.Core.Path.{_≡_, refl, _∙_}
 use Prim.Native.Nat.{ℕ, _≤_}
 use lib.Dec.{eqb}
 use lib.ListN.{length}
-use Rattle.table.specs.Layout.{mostSlots, tableWords}
+use Rattle.table.specs.Layout.{mostSlots}
 use Rattle.table.specs.Contents.{Contents, Valid}
 use Rattle.table.specs.Table.{fresh, Sound}
 use Rattle.table.proofs.Words.{fresh-length}

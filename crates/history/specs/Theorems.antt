@@ -8,7 +8,7 @@ use lib.Dec.{eqb}
 use lib.ListN.{length, take, getD}
 use Rattle.lists.specs.Lists.{All, member}
 use Rattle.table.specs.Layout.{mostSlots, tableWords}
-use Rattle.table.specs.Contents.{Contents, Valid}
+use Rattle.table.specs.Contents.{Contents, Valid, newOrder}
 use Rattle.table.specs.Table.{fresh, Sound}
 use Rattle.image.specs.Image.{imageOf, readImage, isImage}
 use Rattle.calls.specs.Calls.{setUpRefusal, writeRefusal, writeReply, writeOutput}
@@ -66,10 +66,10 @@ ImagesAgree =
 -- After two histories, on any numbers of slots, the images agree exactly when the books do.
 abbrev pub HistoriesImagesAgree : Type 0
 HistoriesImagesAgree =
-    (many number : ℕ) (words others lent room : List ℕ) (one another : History) → Table many words → Table number others
+    (many several : ℕ) (words others lent room : List ℕ) (one another : History) → Table many words → Table several others
     → writeRefusal (tableAfter one words) lent ≡ 0 → writeRefusal (tableAfter another others) room ≡ 0
     → ((writtenImage (tableAfter one words) lent ≡ writtenImage (tableAfter another others) room)
-    ↔ Agree (bookAfter many one) (bookAfter number another))
+    ↔ Agree (bookAfter many one) (bookAfter several another))
 
 -- "Demand 3 is a single claim about whole histories".
 pub record HistoryIndependence : Type 0 where
@@ -89,10 +89,11 @@ abbrev pub AnswersFromBook : Type 0
 AnswersFromBook = (many : ℕ) (words : List ℕ) (history : History) → Table many words → Answers many (tableAfter history words) (bookAfter many history)
 
 -- ---- the beginning of a history
--- A history's first call is accepted, over any words; and what the book held before it does not matter.
+-- A first set-up is accepted, over any words, exactly when its order may be set up, as `History` asks.
 abbrev pub FirstAccepted : Type 0
-FirstAccepted = (many : ℕ) (words : List ℕ) (history : History) → Table many words → setUpRefusal words (history .order) ≡ 0
+FirstAccepted = (many : ℕ) (words : List ℕ) (order : ℕ) → Table many words → ((setUpRefusal words order ≡ 0) ↔ (newOrder order ≡ true))
 
+-- What the book held before it does not matter.
 abbrev pub AnyStart : Type 0
 AnyStart = (many : ℕ) (history : History) (before : Contents) → notes many (callsOf history) before ≡ bookAfter many history
 
@@ -100,7 +101,7 @@ AnyStart = (many : ℕ) (history : History) (before : Contents) → notes many (
 -- Order and set agree exactly when order and rising list do.
 abbrev pub AgreeAsLists : Type 0
 AgreeAsLists =
-    (many number : ℕ) (c d : Contents) → Valid many c → Valid number d → (Agree c d ↔ ((c .order ≡ d .order) × (c .keys ≡ d .keys)))
+    (many several : ℕ) (c d : Contents) → Valid many c → Valid several d → (Agree c d ↔ ((c .order ≡ d .order) × (c .keys ≡ d .keys)))
 
 -- The writing of a sound table is accepted exactly when the output has room for the image.
 abbrev pub WritingAccepted : Type 0
