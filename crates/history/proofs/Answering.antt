@@ -1,0 +1,112 @@
+-- Over a table that shows its book, each call replies, and leaves its output and its place, as the book says. Assumes such a table.
+use mathlib.Core.Bool.{Bool, true, false, cond}
+use mathlib.Core.List.{List, []}
+use mathlib.Core.Path.{_≡_, refl, sym}
+use Prim.Native.Nat.{ℕ}
+use lib.Dec.{eqb}
+use Rattle.lists.proofs.Tests.{by-test}
+use Rattle.table.specs.Contents.{Contents}
+use Rattle.seek.specs.Seek.{leastWithin}
+use Rattle.replies.specs.Replies.{unlessRefused}
+use Rattle.calls.specs.Calls.{grown, setUpReply, buildReply, insertReply, deleteReply, lookupReply, rangeReply, rangeOutput, writeReply, writeOutput, readReply}
+use Rattle.steps.specs.Steps.{endReply, yielded, sought, stepReply, stepPlace}
+use Rattle.steps.specs.declared.Place.{Place}
+use Rattle.history.specs.Call.{Call, setUp, build, reading, insert, delete, lookup, range, writing, step, reply, output}
+use Rattle.history.specs.Book.{refusalBy, replyBy, outputBy, placeBy}
+use Rattle.history.specs.Theorems.{Answers}
+use Rattle.history.proofs.Refusals.{both-same}
+use Rattle.history.proofs.Shows.{Shows}
+use Rattle.history.proofs.Refused.{set-up-refused, build-refused, reading-refused, insert-refused, delete-refused, lookup-refused, range-refused, writing-refused, step-accepted}
+
+-- a step that is not turned down gives no refusal's number
+step-said : (done : Bool) (key : ℕ) → cond done endReply (yielded key) ≡ record { refusal = 0; numbers = cond done endReply (yielded key) .numbers }
+unfolding yielded
+step-said true key = refl
+step-said false key = by-test (eqb key 0) (λ e. rw e) (λ e. rw e)
+
+module _ (many : ℕ) (words : List ℕ) (book : Contents) (table : Shows many words book) where
+  -- ---- replies
+  key-sought : (place : Place) → sought words place ≡ leastWithin (place .next) (place .high) (book .keys)
+  unfolding sought
+  key-sought place = rw (table .holds)
+
+  step-replies : (place : Place) → stepReply words place ≡ replyBy many (step place) book
+  unfolding replyBy refusalBy stepReply
+  step-replies place =
+      rw (step-accepted many words book table, key-sought place)
+      (step-said (place .done) (leastWithin (place .next) (place .high) (book .keys)))
+
+  set-up-replies : (order : ℕ) → setUpReply words order ≡ replyBy many (setUp order) book
+  unfolding setUpReply replyBy
+  set-up-replies order = rw (set-up-refused many words book table order, both-same)
+
+  build-replies : (order : ℕ) (list : List ℕ) → buildReply words order list ≡ replyBy many (build order list) book
+  unfolding buildReply replyBy
+  build-replies order list = rw (build-refused many words book table order list, both-same)
+
+  reading-replies : (bytes : List ℕ) → readReply words bytes ≡ replyBy many (reading bytes) book
+  unfolding readReply replyBy
+  reading-replies bytes = rw (reading-refused many words book table bytes, both-same)
+
+  insert-replies : (key : ℕ) → insertReply words key ≡ replyBy many (insert key) book
+  unfolding insertReply replyBy grown
+  insert-replies key = rw (insert-refused many words book table key, table .holds)
+
+  delete-replies : (key : ℕ) → deleteReply words key ≡ replyBy many (delete key) book
+  unfolding deleteReply replyBy
+  delete-replies key = rw (delete-refused many words book table key, table .holds)
+
+  lookup-replies : (key : ℕ) → lookupReply words key ≡ replyBy many (lookup key) book
+  unfolding lookupReply replyBy
+  lookup-replies key = rw (lookup-refused many words book table key, table .holds)
+
+  range-replies : (low high : ℕ) (lent : List ℕ) → rangeReply words low high lent ≡ replyBy many (range low high lent) book
+  unfolding rangeReply replyBy
+  range-replies low high lent = rw (range-refused many words book table low high lent, table .holds)
+
+  writing-replies : (lent : List ℕ) → writeReply words lent ≡ replyBy many (writing lent) book
+  unfolding writeReply replyBy
+  writing-replies lent = rw (writing-refused many words book table lent, table .holds)
+
+  replies-by-book : (call : Call) → reply call words ≡ replyBy many call book
+  replies-by-book (setUp order) = set-up-replies order
+  replies-by-book (build order list) = build-replies order list
+  replies-by-book (reading bytes) = reading-replies bytes
+  replies-by-book (insert key) = insert-replies key
+  replies-by-book (delete key) = delete-replies key
+  replies-by-book (lookup key) = lookup-replies key
+  replies-by-book (range low high lent) = range-replies low high lent
+  replies-by-book (writing lent) = writing-replies lent
+  replies-by-book (step place) = step-replies place
+
+  -- ---- outputs
+  same-output : (call : Call) (lent : List ℕ) → lent ≡ unlessRefused (refusalBy many call book) lent lent
+  same-output call lent = sym (both-same (refusalBy many call book) lent)
+
+  range-fills : (low high : ℕ) (lent : List ℕ) → rangeOutput words low high lent ≡ outputBy many (range low high lent) book
+  unfolding rangeOutput outputBy
+  range-fills low high lent = rw (range-refused many words book table low high lent, table .holds)
+
+  writing-fills : (lent : List ℕ) → writeOutput words lent ≡ outputBy many (writing lent) book
+  unfolding writeOutput outputBy
+  writing-fills lent = rw (writing-refused many words book table lent, table .holds)
+
+  outputs-by-book : (call : Call) → output call words ≡ outputBy many call book
+  unfolding outputBy
+  outputs-by-book (setUp order) = same-output (setUp order) []
+  outputs-by-book (build order list) = same-output (build order list) []
+  outputs-by-book (reading bytes) = same-output (reading bytes) []
+  outputs-by-book (insert key) = same-output (insert key) []
+  outputs-by-book (delete key) = same-output (delete key) []
+  outputs-by-book (lookup key) = same-output (lookup key) []
+  outputs-by-book (range low high lent) = range-fills low high lent
+  outputs-by-book (writing lent) = writing-fills lent
+  outputs-by-book (step place) = same-output (step place) []
+
+  -- ---- places
+  places-by-book : (place : Place) → stepPlace words place ≡ placeBy place book
+  unfolding stepPlace placeBy
+  places-by-book place = rw (step-accepted many words book table, key-sought place)
+
+  pub answers : Answers many words book
+  answers = record { replies = replies-by-book; outputs = outputs-by-book; places = places-by-book }

@@ -1,0 +1,120 @@
+-- A call over the fresh table of a book leaves the fresh table of the book in which it is noted, and that book is valid again. Assumes a
+-- valid book, and inputs that can be lent.
+use mathlib.Core.Bool.{true, false}
+use mathlib.Core.List.{List}
+use mathlib.Core.Logic.{_≢_}
+use mathlib.Core.Path.{_≡_, refl, sym, ap, _∙_}
+use Prim.Native.Nat.{ℕ, _^_, _≤_, _<_}
+use native.Mathlib.Omega.{arith}
+use lib.ListN.{length}
+use borrow.Author.Tests.{not-false, eqb-false, ltb-false}
+use Rattle.lists.specs.Lists.{All}
+use Rattle.lists.proofs.Keep.{all-both}
+use Rattle.table.specs.Contents.{Contents, Valid, newOrder, risingKeys}
+use Rattle.table.specs.Table.{fresh}
+use Rattle.image.specs.Image.{isImage, readImage}
+use Rattle.image.proofs.Judging.{is-image-valid}
+use Rattle.edit.specs.Edit.{joined}
+use Rattle.replies.specs.Replies.{unlessRefused}
+use Rattle.calls.specs.Reasons.{wrongOrder, zeroKey, lowAboveHigh, notRising, notAnImage, outputTooShort}
+use Rattle.calls.specs.Calls.{rewritten, grown, shrunk, setUpAfter, buildAfter, readAfter, insertAfter, deleteAfter}
+use Rattle.changes.proofs.Sets.{joined-length, joined-valid, without-valid}
+use Rattle.decode.proofs.RisingKeys.{rising-says}
+use Rattle.history.specs.Call.{Call, setUp, build, reading, insert, delete, lookup, range, writing, step, Lent, run}
+use Rattle.history.specs.Book.{blank, listed, withKey, withoutKey, entered, reasons, refusalBy, note}
+use Rattle.history.proofs.Refusals.{none-applies, refused-through, either-way, both-same}
+use Rattle.history.proofs.Shows.{Shows}
+use Rattle.history.proofs.Refused.{set-up-refused, build-refused, reading-refused, insert-refused, delete-refused}
+
+-- ---- the table
+module _ (many : ℕ) (words : List ℕ) (book : Contents) (table : Shows many words book) where
+  -- what a call that writes the table of some contents, unless it is refused, leaves
+  written : (number other : ℕ) (c d : Contents) → number ≡ other → c ≡ d
+      → unlessRefused number (rewritten words c) words ≡ fresh many (unlessRefused other d book)
+  unfolding rewritten
+  written number other c d e f = rw (e, f, table .slots, table .exactly) (refused-through (fresh many) other d book)
+
+  -- what a call that writes no word leaves
+  unwritten : (call : Call) → words ≡ fresh many (unlessRefused (refusalBy many call book) book book)
+  unwritten call = table .exactly ∙ ap (fresh many) (sym (both-same (refusalBy many call book) book))
+
+  pub run-notes : (call : Call) → run call words ≡ fresh many (note many call book)
+  unfolding note setUpAfter buildAfter readAfter insertAfter deleteAfter grown shrunk
+  run-notes (setUp order) = written _ _ (blank order) _ (set-up-refused many words book table order) refl
+  run-notes (build order list) = written _ _ (listed order list) _ (build-refused many words book table order list) refl
+  run-notes (reading bytes) = written _ _ (readImage bytes) _ (reading-refused many words book table bytes) refl
+  run-notes (insert key) = written _ _ (grown words key) _ (insert-refused many words book table key) (ap (withKey key) (table .holds))
+  run-notes (delete key) = written _ _ (shrunk words key) _ (delete-refused many words book table key) (ap (withoutKey key) (table .holds))
+  run-notes (lookup key) = unwritten (lookup key)
+  run-notes (range low high lent) = unwritten (range low high lent)
+  run-notes (writing lent) = unwritten (writing lent)
+  run-notes (step place) = unwritten (step place)
+
+-- ---- the book
+pub blank-valid : (many order : ℕ) → newOrder order ≡ true → Valid many (blank order)
+unfolding newOrder
+blank-valid many order right = record { order-right = right; keys-right = tt; keys-rise = tt; keys-fit = omega arith }
+
+module _ (many : ℕ) (book : Contents) (valid : Valid many book) where
+  -- no reason that the book gives for refusing the call applies
+  abbrev Spared : Call → Type 0
+  Spared call = All (λ r. r .applies ≡ false) (reasons many call book)
+
+  listed-valid : (order : ℕ) (list : List ℕ) → Lent (build order list) → Spared (build order list) → Valid many (listed order list)
+  unfolding newOrder wrongOrder notRising
+  listed-valid order list lent spared =
+      let rising = rising-says list (not-false (risingKeys list) (spared .1 .0)) in
+      record {
+        order-right = not-false (newOrder order) (spared .0);
+        keys-right = all-both (λ k. 1 ≤ k) (λ k. k < 2 ^ 64) list (rising .1) (lent .1);
+        keys-rise = rising .0;
+        keys-fit = ltb-false many (length list) (spared .1 .1 .0);
+      }
+
+  read-valid : (bytes : List ℕ) → Lent (reading bytes) → Spared (reading bytes) → Valid many (readImage bytes)
+  unfolding notAnImage
+  read-valid bytes lent spared =
+      let image = is-image-valid bytes (not-false (isImage bytes) (spared .0)) lent in
+      record {
+        order-right = image .order-right;
+        keys-right = image .keys-right;
+        keys-rise = image .keys-rise;
+        keys-fit = ltb-false many (length (readImage bytes .keys)) (spared .1 .0);
+      }
+
+  key-joins : (key : ℕ) → Lent (insert key) → Spared (insert key) → Valid many (withKey key book)
+  unfolding zeroKey
+  key-joins key lent spared =
+      let some : key ≢ 0 = eqb-false key 0 (spared .0) in
+      joined-valid key many book valid (omega arith, lent) (spared .1 .0)
+      (omega (arith, joined-length key (book .keys), ltb-false many (length (joined key (book .keys))) (spared .1 .1 .0)))
+
+  numbered : (call : Call) → All (λ r. 1 ≤ r .number) (reasons many call book)
+  unfolding wrongOrder notRising notAnImage zeroKey lowAboveHigh outputTooShort
+  numbered (setUp order) = omega arith
+  numbered (build order list) = omega arith
+  numbered (reading bytes) = omega arith
+  numbered (insert key) = omega arith
+  numbered (delete key) = omega arith
+  numbered (lookup key) = omega arith
+  numbered (range low high output) = omega arith
+  numbered (writing output) = omega arith
+  numbered (step place) = tt
+
+  entered-valid : (call : Call) → Lent call → Spared call → Valid many (entered call book)
+  unfolding wrongOrder
+  entered-valid (setUp order) lent spared = blank-valid many order (not-false (newOrder order) (spared .0))
+  entered-valid (build order list) lent spared = listed-valid order list lent spared
+  entered-valid (reading bytes) lent spared = read-valid bytes lent spared
+  entered-valid (insert key) lent spared = key-joins key lent spared
+  entered-valid (delete key) lent spared = without-valid key many book valid
+  entered-valid (lookup key) lent spared = valid
+  entered-valid (range low high output) lent spared = valid
+  entered-valid (writing output) lent spared = valid
+  entered-valid (step place) lent spared = valid
+
+  pub note-valid : (call : Call) → Lent call → Valid many (note many call book)
+  unfolding note refusalBy
+  note-valid call lent =
+      either-way (Valid many) (refusalBy many call book) (entered call book) book
+      (λ e. entered-valid call lent (none-applies (reasons many call book) (numbered call) e)) valid

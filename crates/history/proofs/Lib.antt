@@ -1,0 +1,10 @@
+-- Laws of histories, one subject a file; `Claims` has demands 3 and 2 whole.
+pub mod Refusals
+pub mod Shows
+pub mod Refused
+pub mod Answering
+pub mod Entering
+pub mod Entries
+pub mod Running
+pub mod Agreeing
+pub mod Claims

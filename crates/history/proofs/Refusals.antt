@@ -1,0 +1,34 @@
+-- What a refusal says of the reasons, and what holds of a result whether or not the call was refused. Assumes nothing.
+use mathlib.Core.Bool.{false}
+use mathlib.Core.List.{List, [], _∷_}
+use mathlib.Core.Path.{_≡_, refl}
+use Prim.Native.Nat.{ℕ, zero, suc, _≤_}
+use native.Mathlib.Omega.{arith}
+use Rattle.lists.specs.Lists.{All}
+use Rattle.lists.proofs.Tests.{by-test}
+use Rattle.replies.specs.Replies.{Reason, lowest, unlessRefused}
+
+-- where no number is returned, no reason applies
+pub none-applies : (rs : List Reason) → All (λ r. 1 ≤ r .number) rs → lowest rs ≡ 0 → All (λ r. r .applies ≡ false) rs
+none-applies [] numbered e = tt
+none-applies (r ∷ rs) numbered e =
+    by-test (r .applies)
+    (λ t.
+    let first : r .number ≡ 0 = rw t at e in
+    absurd (omega (arith, numbered .0)))
+    (λ f. (f, none-applies rs (numbered .1) (rw f at e)))
+
+-- what a function makes of the result
+pub refused-through : {A B : Type 0} (f : A → B) (number : ℕ) (accepted refused : A)
+    → unlessRefused number (f accepted) (f refused) ≡ f (unlessRefused number accepted refused)
+refused-through f zero accepted refused = refl
+refused-through f (suc number) accepted refused = refl
+
+-- what holds of both results
+pub either-way : {A : Type 0} (P : A → Type 0) (number : ℕ) (accepted refused : A) → (number ≡ 0 → P accepted) → P refused → P (unlessRefused number accepted refused)
+either-way P zero accepted refused h k = h refl
+either-way P (suc number) accepted refused h k = k
+
+pub both-same : {A : Type 0} (number : ℕ) (x : A) → unlessRefused number x x ≡ x
+both-same zero x = refl
+both-same (suc number) x = refl

@@ -1,0 +1,48 @@
+-- Over a table that shows its book, each call is refused for the reasons that the book gives. Assumes such a table.
+use mathlib.Core.List.{List}
+use mathlib.Core.Path.{_≡_}
+use Prim.Native.Nat.{ℕ}
+use Rattle.table.specs.Contents.{Contents}
+use Rattle.calls.specs.Reasons.{wrongLength, notSound, keyHeld, keyAbsent, tooManyKeys}
+use Rattle.calls.specs.Calls.{grown, setUpRefusal, buildRefusal, insertRefusal, deleteRefusal, lookupRefusal, rangeRefusal, writeRefusal, readRefusal}
+use Rattle.steps.specs.Steps.{stepRefusal}
+use Rattle.history.specs.Call.{setUp, build, reading, insert, delete, lookup, range, writing}
+use Rattle.history.specs.Book.{refusalBy}
+use Rattle.history.proofs.Shows.{Shows}
+
+module _ (many : ℕ) (words : List ℕ) (book : Contents) (table : Shows many words book) where
+  pub set-up-refused : (order : ℕ) → setUpRefusal words order ≡ refusalBy many (setUp order) book
+  unfolding setUpRefusal refusalBy wrongLength
+  set-up-refused order = rw (table .right)
+
+  pub build-refused : (order : ℕ) (list : List ℕ) → buildRefusal words order list ≡ refusalBy many (build order list) book
+  unfolding buildRefusal refusalBy wrongLength tooManyKeys
+  build-refused order list = rw (table .right, table .slots)
+
+  pub reading-refused : (bytes : List ℕ) → readRefusal words bytes ≡ refusalBy many (reading bytes) book
+  unfolding readRefusal refusalBy wrongLength tooManyKeys
+  reading-refused bytes = rw (table .right, table .slots)
+
+  pub insert-refused : (key : ℕ) → insertRefusal words key ≡ refusalBy many (insert key) book
+  unfolding insertRefusal refusalBy wrongLength notSound keyHeld tooManyKeys grown
+  insert-refused key = rw (table .right, table .slots, table .sound, table .holds)
+
+  pub delete-refused : (key : ℕ) → deleteRefusal words key ≡ refusalBy many (delete key) book
+  unfolding deleteRefusal refusalBy wrongLength notSound keyAbsent
+  delete-refused key = rw (table .right, table .sound, table .holds)
+
+  pub lookup-refused : (key : ℕ) → lookupRefusal words key ≡ refusalBy many (lookup key) book
+  unfolding lookupRefusal refusalBy wrongLength notSound
+  lookup-refused key = rw (table .right, table .sound)
+
+  pub range-refused : (low high : ℕ) (lent : List ℕ) → rangeRefusal words low high lent ≡ refusalBy many (range low high lent) book
+  unfolding rangeRefusal refusalBy wrongLength notSound
+  range-refused low high lent = rw (table .right, table .sound, table .holds)
+
+  pub writing-refused : (lent : List ℕ) → writeRefusal words lent ≡ refusalBy many (writing lent) book
+  unfolding writeRefusal refusalBy wrongLength notSound
+  writing-refused lent = rw (table .right, table .sound, table .holds)
+
+  pub step-accepted : stepRefusal words ≡ 0
+  unfolding stepRefusal wrongLength notSound
+  step-accepted = rw (table .right, table .sound)

@@ -1,0 +1,151 @@
+-- The book: an order and a set of keys, "fed the calls with their inputs, no reply and no word of its own table"; and what the calls
+-- answer by the book. M, the number of slots, is `many`. Assumes nothing.
+use mathlib.Core.Bool.{cond, not}
+use mathlib.Core.List.{List, [], _∷_, _++_}
+use Prim.Native.Nat.{ℕ}
+use lib.Dec.{ltb}
+use lib.ListN.{length}
+use Rattle.lists.specs.Lists.{member, overwrite}
+use Rattle.priority.specs.Priority.{priorityOf}
+use Rattle.treap.specs.Blocks.{blocksMet}
+use Rattle.table.specs.Contents.{Contents}
+use Rattle.image.specs.Image.{imageOf, readImage}
+use Rattle.edit.specs.Edit.{joined, without}
+use Rattle.ranges.specs.Ranges.{within}
+use Rattle.seek.specs.Seek.{leastWithin}
+use Rattle.replies.specs.Replies.{Reply, Reason, lowest, unlessRefused}
+use Rattle.calls.specs.Reasons.{wrongOrder, zeroKey, lowAboveHigh, notRising, notAnImage, outputTooShort}
+use Rattle.calls.specs.Calls.{rankIn, standingIn}
+use Rattle.steps.specs.Steps.{endReply, yielded, moved}
+use Rattle.steps.specs.declared.Place.{Place}
+use Rattle.history.specs.Call.{Call, setUp, build, reading, insert, delete, lookup, range, writing, step}
+
+-- ---- the entries
+-- "Set-up ..: the given order, no keys."
+abbrev pub blank : ℕ → Contents
+blank order = record { order = order; keys = [] }
+
+-- "Build ..: the given order and the listed keys."
+abbrev pub listed : ℕ → List ℕ → Contents
+listed order list = record { order = order; keys = list }
+
+-- "Insert ..: the key joins the set."
+abbrev pub withKey : ℕ → Contents → Contents
+withKey key book = record { order = book .order; keys = joined key (book .keys) }
+
+-- "Delete ..: the key leaves it."
+abbrev pub withoutKey : ℕ → Contents → Contents
+withoutKey key book = record { order = book .order; keys = without key (book .keys) }
+
+-- The book after an accepted call: "Reading ..: the order and set whose image the bytes are"; "at a lookup, range or writing, the book
+-- stays as it was", and steps "change neither table nor book".
+abbrev pub entered : Call → Contents → Contents
+entered (setUp order) book = blank order
+entered (build order list) book = listed order list
+entered (reading bytes) book = readImage bytes
+entered (insert key) book = withKey key book
+entered (delete key) book = withoutKey key book
+entered (lookup key) book = book
+entered (range low high output) book = book
+entered (writing output) book = book
+entered (step place) book = book
+
+-- ---- refusals
+-- "Refusals 2, 3, 5 and 6 are judged on the input, 8 to 10 on input, book and M."
+abbrev pub bookHolds : Contents → ℕ → Reason
+bookHolds book key = record { number = 8; applies = member key (book .keys) }
+
+abbrev pub bookLacks : Contents → ℕ → Reason
+bookLacks book key = record { number = 9; applies = not (member key (book .keys)) }
+
+abbrev pub tooMany : ℕ → ℕ → Reason
+tooMany many n = record { number = 10; applies = ltb many n }
+
+-- The reasons for which a call is turned down, by the book: 1 and 7 never apply.
+abbrev pub reasons : ℕ → Call → Contents → List Reason
+reasons many (setUp order) book = wrongOrder order ∷ []
+reasons many (build order list) book = wrongOrder order ∷ notRising list ∷ tooMany many (length list) ∷ []
+reasons many (reading bytes) book = notAnImage bytes ∷ tooMany many (length (readImage bytes .keys)) ∷ []
+reasons many (insert key) book = zeroKey key ∷ bookHolds book key ∷ tooMany many (length (withKey key book .keys)) ∷ []
+reasons many (delete key) book = zeroKey key ∷ bookLacks book key ∷ []
+reasons many (lookup key) book = zeroKey key ∷ []
+reasons many (range low high output) book =
+    lowAboveHigh low high ∷ outputTooShort (length output) (length (within low high (book .keys))) ∷ []
+reasons many (writing output) book = outputTooShort (length output) (length (imageOf book)) ∷ []
+reasons many (step place) book = []
+
+unfoldable pub refusalBy : ℕ → Call → Contents → ℕ
+refusalBy many call book = lowest (reasons many call book)
+
+-- ---- the book of a list of calls
+-- "Set-up, unless 2 applies ..; build, unless 2, 5 or 10 ..; reading, unless 6 or 10 ..; insert, unless 3, 8 or 10 ..; delete, unless 3
+-- or 9 .. Otherwise .. the book stays as it was."
+unfoldable pub note : ℕ → Call → Contents → Contents
+note many call book = unlessRefused (refusalBy many call book) (entered call book) book
+
+abbrev pub notes : ℕ → List Call → Contents → Contents
+notes many [] book = book
+notes many (call ∷ calls) book = notes many calls (note many call book)
+
+-- The book of a history; what stood in it before the first set-up does not matter.
+abbrev pub bookOf : ℕ → List Call → Contents
+bookOf many calls = notes many calls (blank 0)
+
+-- ---- what the calls answer by the book
+-- The numbers of an accepted call's reply.
+abbrev pub numbersBy : Call → Contents → List ℕ
+numbersBy (setUp order) book = []
+numbersBy (build order list) book = []
+numbersBy (reading bytes) book = []
+numbersBy (insert key) book = rankIn (withKey key book) key ∷ []
+numbersBy (delete key) book = rankIn book key ∷ []
+numbersBy (lookup key) book = standingIn book key ++ (blocksMet (book .order) priorityOf (book .keys) key ∷ [])
+numbersBy (range low high output) book = length (within low high (book .keys)) ∷ []
+numbersBy (writing output) book = length (imageOf book) ∷ []
+numbersBy (step place) book = cond (place .done) endReply (yielded (leastWithin (place .next) (place .high) (book .keys))) .numbers
+
+-- "A refusal returns its number, all other numbers zero".
+abbrev pub zeros : Call → List ℕ
+zeros (setUp order) = []
+zeros (build order list) = []
+zeros (reading bytes) = []
+zeros (insert key) = 0 ∷ []
+zeros (delete key) = 0 ∷ []
+zeros (lookup key) = 0 ∷ 0 ∷ 0 ∷ 0 ∷ 0 ∷ []
+zeros (range low high output) = 0 ∷ []
+zeros (writing output) = 0 ∷ []
+zeros (step place) = 0 ∷ 0 ∷ []
+
+unfoldable pub replyBy : ℕ → Call → Contents → Reply
+replyBy many call book =
+    record { refusal = refusalBy many call book; numbers = unlessRefused (refusalBy many call book) (numbersBy call book) (zeros call) }
+
+-- What an accepted range and an accepted writing leave in their output, and what a refused one does; none where a call is lent none.
+abbrev pub filled : Call → Contents → List ℕ
+filled (setUp order) book = []
+filled (build order list) book = []
+filled (reading bytes) book = []
+filled (insert key) book = []
+filled (delete key) book = []
+filled (lookup key) book = []
+filled (range low high output) book = overwrite output 0 (within low high (book .keys))
+filled (writing output) book = overwrite output 0 (imageOf book)
+filled (step place) book = []
+
+abbrev pub lentOutput : Call → List ℕ
+lentOutput (setUp order) = []
+lentOutput (build order list) = []
+lentOutput (reading bytes) = []
+lentOutput (insert key) = []
+lentOutput (delete key) = []
+lentOutput (lookup key) = []
+lentOutput (range low high output) = output
+lentOutput (writing output) = output
+lentOutput (step place) = []
+
+unfoldable pub outputBy : ℕ → Call → Contents → List ℕ
+outputBy many call book = unlessRefused (refusalBy many call book) (filled call book) (lentOutput call)
+
+-- Where a step leaves its place.
+unfoldable pub placeBy : Place → Contents → Place
+placeBy place book = cond (place .done) place (moved (leastWithin (place .next) (place .high) (book .keys)) place)

@@ -1,0 +1,120 @@
+-- What is claimed of whole histories; the files of `proofs` prove it. Assumes nothing.
+use mathlib.Core.Bool.{true, not, _&&_, _||_}
+use mathlib.Core.List.{List}
+use mathlib.Core.Logic.{_↔_}
+use mathlib.Core.Path.{_≡_}
+use Prim.Native.Nat.{ℕ, _≤_}
+use lib.Dec.{eqb}
+use lib.ListN.{length, take, getD}
+use Rattle.lists.specs.Lists.{All, member}
+use Rattle.table.specs.Layout.{mostSlots, tableWords}
+use Rattle.table.specs.Contents.{Contents, Valid, newOrder}
+use Rattle.table.specs.Table.{fresh, Sound}
+use Rattle.image.specs.Image.{imageOf, readImage, isImage}
+use Rattle.calls.specs.Calls.{setUpRefusal, writeRefusal, writeReply, writeOutput}
+use Rattle.steps.specs.Steps.{stepPlace}
+use Rattle.steps.specs.declared.Place.{Place}
+use Rattle.history.specs.Call.{Call, IsByte, History, callsOf, runs, reply, output}
+use Rattle.history.specs.Book.{withKey, withoutKey, notes, bookOf, replyBy, outputBy, placeBy}
+
+-- "A table has M slots, M from 1 to 4,096, and lives in lent 64-bit words, 3 + 6·M of them": any words of that number.
+pub record Table (many : ℕ) (words : List ℕ) : Type 0 where
+  pub some : 1 ≤ many
+  pub most : many ≤ mostSlots
+  pub long : length words ≡ tableWords many
+
+-- The same order and the same set of keys.
+abbrev pub Agree : Contents → Contents → Type 0
+Agree c d = (c .order ≡ d .order) × ((key : ℕ) → member key (c .keys) ≡ member key (d .keys))
+
+-- The words of a table of M slots after a history, and its book.
+abbrev pub tableAfter : History → List ℕ → List ℕ
+tableAfter history words = runs (callsOf history) words
+
+abbrev pub bookAfter : ℕ → History → Contents
+bookAfter many history = bookOf many (callsOf history)
+
+-- ---- Demand 3
+-- After every history, over any words, the table is in every word the one built afresh from its book's order and set, which has at
+-- most M keys.
+abbrev pub TableFromBook : Type 0
+TableFromBook =
+    (many : ℕ) (words : List ℕ) (history : History) → Table many words
+    → (tableAfter history words ≡ fresh many (bookAfter many history)) × Valid many (bookAfter many history)
+
+-- After two histories on equally many slots, over any words each, the tables agree in every word exactly when their books agree in
+-- order and set.
+abbrev pub TablesAgree : Type 0
+TablesAgree =
+    (many : ℕ) (words others : List ℕ) (one another : History) → Table many words → Table many others
+    → ((tableAfter one words ≡ tableAfter another others) ↔ Agree (bookAfter many one) (bookAfter many another))
+
+-- "A table's image is the output of an accepted writing, as long as the reply says".
+abbrev pub writtenImage : List ℕ → List ℕ → List ℕ
+writtenImage words lent = take (getD (writeReply words lent .numbers) 0 0) (writeOutput words lent)
+
+-- "and byte for byte what the section Image lays down."
+abbrev pub ImageWritten : Type 0
+ImageWritten = (words lent : List ℕ) (sound : Sound words) → writeRefusal words lent ≡ 0 → writtenImage words lent ≡ imageOf (sound .contents)
+
+-- Of every two sound tables, of any numbers of slots, the images agree in every byte exactly when the tables agree in order and set.
+abbrev pub ImagesAgree : Type 0
+ImagesAgree =
+    (words others lent room : List ℕ) (sound : Sound words) (right : Sound others) → writeRefusal words lent ≡ 0 → writeRefusal others room ≡ 0
+    → ((writtenImage words lent ≡ writtenImage others room) ↔ Agree (sound .contents) (right .contents))
+
+-- After two histories, on any numbers of slots, the images agree exactly when the books do.
+abbrev pub HistoriesImagesAgree : Type 0
+HistoriesImagesAgree =
+    (many several : ℕ) (words others lent room : List ℕ) (one another : History) → Table many words → Table several others
+    → writeRefusal (tableAfter one words) lent ≡ 0 → writeRefusal (tableAfter another others) room ≡ 0
+    → ((writtenImage (tableAfter one words) lent ≡ writtenImage (tableAfter another others) room)
+    ↔ Agree (bookAfter many one) (bookAfter several another))
+
+-- "Demand 3 is a single claim about whole histories".
+pub record HistoryIndependence : Type 0 where
+  pub table-from-book : TableFromBook
+  pub tables-agree : TablesAgree
+  pub image-written : ImageWritten
+  pub images-agree : ImagesAgree
+  pub histories-images-agree : HistoriesImagesAgree
+
+-- ---- Demand 2, over histories: after every history each call, whatever it is handed, answers what the book says
+pub record Answers (many : ℕ) (words : List ℕ) (book : Contents) : Type 0 where
+  pub replies : (call : Call) → reply call words ≡ replyBy many call book
+  pub outputs : (call : Call) → output call words ≡ outputBy many call book
+  pub places : (place : Place) → stepPlace words place ≡ placeBy place book
+
+abbrev pub AnswersFromBook : Type 0
+AnswersFromBook = (many : ℕ) (words : List ℕ) (history : History) → Table many words → Answers many (tableAfter history words) (bookAfter many history)
+
+-- ---- the beginning of a history
+-- A first set-up is accepted, over any words, exactly when its order may be set up, as `History` asks.
+abbrev pub FirstAccepted : Type 0
+FirstAccepted = (many : ℕ) (words : List ℕ) (order : ℕ) → Table many words → ((setUpRefusal words order ≡ 0) ↔ (newOrder order ≡ true))
+
+-- What the book held before it does not matter.
+abbrev pub AnyStart : Type 0
+AnyStart = (many : ℕ) (history : History) (before : Contents) → notes many (callsOf history) before ≡ bookAfter many history
+
+-- ---- what the claims stand on
+-- Order and set agree exactly when order and rising list do.
+abbrev pub AgreeAsLists : Type 0
+AgreeAsLists =
+    (many several : ℕ) (c d : Contents) → Valid many c → Valid several d → (Agree c d ↔ ((c .order ≡ d .order) × (c .keys ≡ d .keys)))
+
+-- The writing of a sound table is accepted exactly when the output has room for the image.
+abbrev pub WritingAccepted : Type 0
+WritingAccepted =
+    (words lent : List ℕ) (sound : Sound words) → ((writeRefusal words lent ≡ 0) ↔ (length (imageOf (sound .contents)) ≤ length lent))
+
+-- The book's entries are what document 01 calls them.
+pub record Entries : Type 0 where
+  -- "the key joins the set"
+  pub joins : (key other : ℕ) (book : Contents) → member other (withKey key book .keys) ≡ (eqb other key || member other (book .keys))
+  -- "the key leaves it"
+  pub leaves : (key other : ℕ) (book : Contents) → member other (withoutKey key book .keys) ≡ (not (eqb other key) && member other (book .keys))
+  -- "the order and set whose image the bytes are", where 6 does not apply
+  pub reads : (bytes : List ℕ) → All IsByte bytes → isImage bytes ≡ true → Valid mostSlots (readImage bytes) × (bytes ≡ imageOf (readImage bytes))
+  -- 6 does not apply to an image "that the writer makes for any order and any set of at most 4,096 keys", and that order and set are read
+  pub read-back : (c : Contents) → Valid mostSlots c → (isImage (imageOf c) ≡ true) × (readImage (imageOf c) ≡ c)
