@@ -20,6 +20,8 @@ use Rattle.replies.specs.declared.Written.{Written}
 use Rattle.replies.specs.declared.Written.the-variants as written
 use Rattle.replies.specs.declared.ReadBack.{ReadBack}
 use Rattle.replies.specs.declared.ReadBack.the-variants as read-back
+use Rattle.replies.specs.declared.Listed.{Listed}
+use Rattle.replies.specs.declared.Listed.the-variants as listed
 use Rattle.replies.specs.declared.Stepped.{Stepped}
 use Rattle.replies.specs.declared.Stepped.the-variants as stepped
 
@@ -90,6 +92,11 @@ writtenOf (written.Refused r) = record { refusal = numberOf r; numbers = 0 ∷ [
 abbrev pub readBackOf : ReadBack → Reply
 readBackOf read-back.Done = record { refusal = 0; numbers = [] }
 readBackOf (read-back.Refused r) = record { refusal = numberOf r; numbers = [] }
+
+-- The length of a listing's text.
+abbrev pub listedOf : Listed → Reply
+listedOf (listed.Bytes n) = record { refusal = 0; numbers = n ∷ [] }
+listedOf (listed.Refused r) = record { refusal = numberOf r; numbers = 0 ∷ [] }
 
 -- "The step yields the least held key", one and the key, or "answers end", two zeros.
 abbrev pub steppedOf : Stepped → Reply

@@ -91,6 +91,12 @@ pub enum ReadBack {
     Refused(Refusal),
 }
 
+// The answer of a listing: how many bytes its text has.
+pub enum Listed {
+    Bytes(usize),
+    Refused(Refusal),
+}
+
 // The answer of a range: how many keys were written.
 pub enum Ranged {
     Wrote(usize),
