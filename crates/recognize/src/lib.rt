@@ -87,7 +87,15 @@ fn recognize_within(
     ensures { λ _. ⌜ (isImage (now (image .entry)) ≡ true → now (keys .exit) ≡ overwrite (now (keys .entry)) 0 (readImage (now (image .entry)) .keys)) ⌝ }
 {
     let size = image.len();
-    recognize_in(image, held, weights, ranking, spare, &mut copy[..size], keys)
+    recognize_in(
+        image,
+        held,
+        weights,
+        ranking,
+        spare,
+        &mut copy[..size],
+        keys,
+    )
 }
 
 // An image of up to 4,096 bytes.

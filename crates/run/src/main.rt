@@ -5,9 +5,11 @@ use replies::Deleted;
 use replies::Inserted;
 use replies::LookedUp;
 use replies::Ranged;
+use replies::ReadBack;
 use replies::Refusal;
 use replies::SetUp;
 use replies::Stepped;
+use replies::Written;
 use steps::Place;
 
 // The most words that a length is tried with.
@@ -15,6 +17,9 @@ const MOST_WORDS: usize = 24585;
 
 // The words of a table of three slots.
 const THREE_SLOTS: usize = 21;
+
+// The bytes of the image of two keys in one block.
+const TWO_KEYS: usize = 89;
 
 fn say(text: &[u8]) {
     io::write_all(1, text);
@@ -129,6 +134,29 @@ fn range(table: &[u64], low: u64, high: u64) {
     say(b"\n");
 }
 
+fn write(table: &[u64], image: &mut [u8]) {
+    say(b"write:");
+    let answer = images::write(table, image);
+    match answer {
+        Written::Bytes(n) => {
+            tell(0);
+            tell(n as u64);
+        }
+        Written::Refused(reason) => refused(reason),
+    }
+    say(b"\n");
+}
+
+fn read_back(table: &mut [u64], image: &[u8]) {
+    say(b"read:");
+    let answer = images::read(table, image);
+    match answer {
+        ReadBack::Done => tell(0),
+        ReadBack::Refused(reason) => refused(reason),
+    }
+    say(b"\n");
+}
+
 fn told(answer: Stepped) {
     match answer {
         Stepped::Key(key) => {
@@ -210,6 +238,13 @@ fn empty(table: &mut [u64]) {
     delete(table, 7);
 }
 
+// An image whose number of keys is changed.
+fn change(image: &mut [u8]) {
+    if 3 < image.len() {
+        image[3] = 9;
+    }
+}
+
 // A table that somebody else wrote to.
 fn damaged(table: &mut [u64]) {
     if table.len() < THREE_SLOTS {
@@ -233,5 +268,10 @@ fn main() {
     fill(&mut table);
     read(&table);
     empty(&mut table);
+    let mut image = [0u8; TWO_KEYS];
+    write(&table, &mut image);
+    read_back(&mut table, &image);
+    change(&mut image);
+    read_back(&mut table, &image);
     damaged(&mut table);
 }

@@ -7,7 +7,6 @@ use borrow.Author.Tests.{not-true, not-false}
 use Rattle.table.specs.Contents.{newOrder, risingKeys}
 use Rattle.judge.specs.Judge.{slotsFor}
 use Rattle.judge.proofs.Lengths.{SlotsOf, slots-for-some}
-
 use Rattle.index.proofs.Building.{refused-length, refused-order, refused-list, refused-many, accepted, can-be-written}
 use borrow.Author.Needs.{needs}
 use Rattle.index.proofs.build.Statement.{statement}

@@ -54,7 +54,7 @@ returns c =
     let turn = c .before .before in
     let start = begun (turn .before) in
     let wrong = unmarked (start .args .records .now) (start .args .held) (turn .before .loop .i) (turn .loop-test .taken)
-        (sym (c .before .is-marked .ensures) ∙ not-true (c .before .is-marked .result) (c .if1 .taken)) in
+    (sym (c .before .is-marked .ensures) ∙ not-true (c .before .is-marked .result) (c .if1 .taken)) in
     (sym wrong, λ t. absurd (true-or-false (marked (start .args .held) (start .args .records .now)) t wrong))
 
 add-get : tie.Need-add-get Inv-loop μ-loop
