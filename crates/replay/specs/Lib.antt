@@ -1,0 +1,2 @@
+-- Histories written down in words.
+pub mod Script
