@@ -1,0 +1,93 @@
+//! Document 01, section "The table's words".
+
+use crate::priority::{entries, Entry, Priority};
+use crate::shape::{shape, Shape};
+use crate::{is_order, Contents, MOST_SLOTS};
+use std::collections::BTreeSet;
+
+/// Words before the first slot: "Words 0 to 2: α, n, root key."
+pub const HEADER_WORDS: usize = 3;
+
+/// Words of a slot: "key, left, right, leader, rank, count"
+pub const SLOT_WORDS: usize = 6;
+
+/// The length of a table of M slots: "3 + 6·M"
+pub const fn length_of_slots(m: usize) -> usize {
+    HEADER_WORDS + SLOT_WORDS * m
+}
+
+/// M, when the length is "3 + 6·M" with "M from 1 to 4,096"; else none.
+pub fn slots_of_length(words: usize) -> Option<usize> {
+    (1..=MOST_SLOTS).find(|&m| words == length_of_slots(m))
+}
+
+/// "Slots are those that come of placing the keys one by one, each before all
+/// keys it outranks, in the first empty slot at or above home, slot 0 following
+/// the last". Gives the key in each slot, zero for an empty one.
+pub fn slots(keys: &[Entry], m: usize) -> Vec<u64> {
+    let mut slots = vec![0; m];
+    for entry in falling(keys) {
+        let home = entry.home(m);
+        let free = (0..m)
+            .map(|step| (home + step) % m)
+            .find(|&s| slots[s] == 0);
+        slots[free.expect("at most M keys")] = entry.key;
+    }
+    slots
+}
+
+/// The keys, each before all keys it outranks.
+fn falling(keys: &[Entry]) -> Vec<Entry> {
+    let mut list = keys.to_vec();
+    list.sort_by(|a, b| {
+        if a == b {
+            std::cmp::Ordering::Equal
+        } else if a.outranks(*b) {
+            std::cmp::Ordering::Less
+        } else {
+            std::cmp::Ordering::Greater
+        }
+    });
+    list
+}
+
+/// The shape of an order and a set.
+pub fn shape_of(priority: Priority, contents: &Contents) -> Shape {
+    shape(contents.order, &entries(priority, &contents.keys))
+}
+
+/// "Words 0 to 2: α, n, root key. Then each slot: key, left, right, leader,
+/// rank, count. Links are keys. An empty slot is all zeros."
+pub fn words(priority: Priority, contents: &Contents, m: usize) -> Vec<u64> {
+    let shape = shape_of(priority, contents);
+    let mut words = vec![contents.order, contents.keys.len() as u64, shape.root];
+    for key in slots(&entries(priority, &contents.keys), m) {
+        words.extend(match shape.node(key) {
+            None => [0; SLOT_WORDS],
+            Some(v) => [v.key, v.left, v.right, v.leader, v.rank, v.count],
+        });
+    }
+    words
+}
+
+/// The only order and set that the words can be those for: word 0, and the
+/// keys in the slots.
+fn candidate(table: &[u64]) -> Contents {
+    let keys: BTreeSet<u64> = table[HEADER_WORDS..]
+        .chunks(SLOT_WORDS)
+        .map(|slot| slot[0])
+        .collect();
+    Contents {
+        order: table[0],
+        keys: keys.into_iter().filter(|&key| key != 0).collect(),
+    }
+}
+
+/// "A table is sound when its words are exactly those for some order and some
+/// set of at most M keys." Gives these, or none for an unsound table.
+pub fn sound(priority: Priority, table: &[u64]) -> Option<Contents> {
+    let m = slots_of_length(table.len())?;
+    let contents = candidate(table);
+    let exact = is_order(contents.order) && words(priority, &contents, m) == table;
+    exact.then_some(contents)
+}
