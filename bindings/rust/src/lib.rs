@@ -1,0 +1,188 @@
+//! A safe wrapper of `libbtreap.a`: a set of 64-bit keys kept in words that the caller lends, whose every word depends only on the
+//! order, the number of slots and the set. Each call takes any words and bytes; one that refuses changes none of them.
+//!
+//! ```
+//! let mut table = vec![0; btreap::table_words(64)];
+//! btreap::set_up(&mut table, 8)?;
+//! btreap::insert(&mut table, 42)?;
+//! assert!(btreap::look_up(&table, 42)?.is_held());
+//! # Ok::<(), btreap::Refusal>(())
+//! ```
+
+use std::fmt;
+
+pub mod sys;
+
+/// The most slots that a table has.
+pub const MOST_SLOTS: usize = 4096;
+
+/// The bytes of the longest image: 4,096 keys, each in a block of its own.
+pub const LONGEST_IMAGE: usize = 15 + 44 * MOST_SLOTS;
+
+/// The words of a table of so many slots.
+pub const fn table_words(slots: usize) -> usize {
+    3 + 6 * slots
+}
+
+/// Why a call was turned down. The lowest that applies is given.
+#[derive(Clone, Copy, Debug, PartialEq, Eq)]
+pub enum Refusal {
+    WrongLength,
+    WrongOrder,
+    ZeroKey,
+    LowAboveHigh,
+    NotRising,
+    NotAnImage,
+    NotSound,
+    KeyHeld,
+    KeyAbsent,
+    TooManyKeys,
+    OutputTooShort,
+}
+
+const REFUSALS: [(Refusal, &str); 11] = [
+    (Refusal::WrongLength, "the number of words is not 3 + 6·M for 1 to 4,096 slots"),
+    (Refusal::WrongOrder, "the order is outside 3 to 255"),
+    (Refusal::ZeroKey, "the key is zero"),
+    (Refusal::LowAboveHigh, "low is above high"),
+    (Refusal::NotRising, "the list does not rise strictly, or has a zero"),
+    (Refusal::NotAnImage, "the bytes are no image"),
+    (Refusal::NotSound, "the table is not sound"),
+    (Refusal::KeyHeld, "the key is held"),
+    (Refusal::KeyAbsent, "the key is absent"),
+    (Refusal::TooManyKeys, "there would be more keys than slots"),
+    (Refusal::OutputTooShort, "the output is too short"),
+];
+
+impl Refusal {
+    /// Its number, 1 to 11.
+    pub fn number(self) -> u64 {
+        self as u64 + 1
+    }
+}
+
+impl fmt::Display for Refusal {
+    fn fmt(&self, out: &mut fmt::Formatter) -> fmt::Result {
+        out.write_str(REFUSALS[*self as usize].1)
+    }
+}
+
+impl std::error::Error for Refusal {}
+
+/// What a call replied: its result where the number of the refusal is zero.
+fn unless_refused<T>(number: u64, result: T) -> Result<T, Refusal> {
+    match number {
+        0 => Ok(result),
+        _ => Err(REFUSALS[number as usize - 1].0),
+    }
+}
+
+/// What a lookup finds. `blocks` is how many different blocks hold the keys that it compared on its way down.
+#[derive(Clone, Copy, Debug, PartialEq, Eq)]
+pub enum Found {
+    Held { rank: u64, count: u64, leader: u64, blocks: u64 },
+    Absent { blocks: u64 },
+}
+
+impl Found {
+    pub fn is_held(self) -> bool {
+        matches!(self, Found::Held { .. })
+    }
+}
+
+/// Where a step goes on: the least key that it may yield and the greatest, and whether there is nothing more to yield.
+#[derive(Clone, Copy, Debug, PartialEq, Eq)]
+pub struct Place {
+    pub next: u64,
+    pub high: u64,
+    pub done: bool,
+}
+
+impl Place {
+    /// The place for the whole set.
+    pub const ALL: Place = Place { next: 0, high: u64::MAX, done: false };
+
+    /// The spent place.
+    pub const SPENT: Place = Place { next: 0, high: 0, done: true };
+
+    /// The place for the keys from `low` to `high`, both included.
+    pub const fn new(low: u64, high: u64) -> Place {
+        Place { next: low, high, done: false }
+    }
+}
+
+/// Make of any words the blank table of an order. Refusals: 1, 2.
+pub fn set_up(table: &mut [u64], order: u64) -> Result<(), Refusal> {
+    // SAFETY: the pointer and the length are one live slice's, which nothing else uses during the call.
+    let refusal = unsafe { sys::btreap_set_up(table.as_mut_ptr(), table.len(), order) };
+    unless_refused(refusal, ())
+}
+
+/// Make of any words the table of an order and a strictly rising list of keys. Refusals: 1, 2, 5, 10.
+pub fn build(table: &mut [u64], order: u64, keys: &[u64]) -> Result<(), Refusal> {
+    // SAFETY: as in `set_up`; a mutable and a shared slice do not overlap.
+    let refusal = unsafe { sys::btreap_build(table.as_mut_ptr(), table.len(), order, keys.as_ptr(), keys.len()) };
+    unless_refused(refusal, ())
+}
+
+/// Insert a key; the rank that it then has. Refusals: 1, 3, 7, 8, 10.
+pub fn insert(table: &mut [u64], key: u64) -> Result<u64, Refusal> {
+    // SAFETY: as in `set_up`.
+    let reply = unsafe { sys::btreap_insert(table.as_mut_ptr(), table.len(), key) };
+    unless_refused(reply.refusal, reply.rank)
+}
+
+/// Delete a key; the rank that it had. Refusals: 1, 3, 7, 9.
+pub fn delete(table: &mut [u64], key: u64) -> Result<u64, Refusal> {
+    // SAFETY: as in `set_up`.
+    let reply = unsafe { sys::btreap_delete(table.as_mut_ptr(), table.len(), key) };
+    unless_refused(reply.refusal, reply.rank)
+}
+
+/// Look a key up. Refusals: 1, 3, 7.
+pub fn look_up(table: &[u64], key: u64) -> Result<Found, Refusal> {
+    // SAFETY: as in `set_up`; the table is only read.
+    let reply = unsafe { sys::btreap_lookup(table.as_ptr(), table.len(), key) };
+    let sys::Found { rank, count, leader, blocks, .. } = reply;
+    let found = match reply.held {
+        0 => Found::Absent { blocks },
+        _ => Found::Held { rank, count, leader, blocks },
+    };
+    unless_refused(reply.refusal, found)
+}
+
+/// Write at the start of `out` the held keys from `low` to `high`, both included, rising; how many. Refusals: 1, 4, 7, 11.
+pub fn range(table: &[u64], low: u64, high: u64, out: &mut [u64]) -> Result<usize, Refusal> {
+    // SAFETY: as in `build`.
+    let reply = unsafe { sys::btreap_range(table.as_ptr(), table.len(), low, high, out.as_mut_ptr(), out.len()) };
+    unless_refused(reply.refusal, reply.size as usize)
+}
+
+/// The next key from a place, which moves on; `None` at the end. Refusals: 1, 7; the place is then as it was.
+pub fn step(table: &[u64], place: &mut Place) -> Result<Option<u64>, Refusal> {
+    // SAFETY: as in `set_up`; the table is only read.
+    let reply = unsafe { sys::btreap_step(table.as_ptr(), table.len(), place.next, place.high, place.done.into()) };
+    *place = Place { next: reply.next, high: reply.high, done: reply.done != 0 };
+    unless_refused(reply.refusal, (reply.found != 0).then_some(reply.key))
+}
+
+/// Write the table's image at the start of `out`; how many bytes it has. Refusals: 1, 7, 11.
+pub fn write(table: &[u64], out: &mut [u8]) -> Result<usize, Refusal> {
+    // SAFETY: as in `build`.
+    let reply = unsafe { sys::btreap_write(table.as_ptr(), table.len(), out.as_mut_ptr(), out.len()) };
+    unless_refused(reply.refusal, reply.size as usize)
+}
+
+/// Make of any words the table whose image the bytes are. Refusals: 1, 6, 10.
+pub fn read(table: &mut [u64], image: &[u8]) -> Result<(), Refusal> {
+    // SAFETY: as in `build`.
+    let refusal = unsafe { sys::btreap_read(table.as_mut_ptr(), table.len(), image.as_ptr(), image.len()) };
+    unless_refused(refusal, ())
+}
+
+/// Write the text of an image at the start of `out`; how many bytes it has. Refusals: 6, 11.
+pub fn list(image: &[u8], out: &mut [u8]) -> Result<usize, Refusal> {
+    // SAFETY: as in `build`.
+    let reply = unsafe { sys::btreap_list(image.as_ptr(), image.len(), out.as_mut_ptr(), out.len()) };
+    unless_refused(reply.refusal, reply.size as usize)
+}
