@@ -1,0 +1,3 @@
+-- Laws of the replies as structs.
+pub mod Refused
+pub mod Marks

@@ -1,0 +1,24 @@
+-- `btreap::btreap_insert` meets its contract. Assumes nothing.
+use mathlib.Core.Path.{ap, _∙_}
+use borrow.Author.Needs.{needs}
+use Rattle.btreap.proofs.btreap_insert.Statement.{statement}
+use Rattle.btreap.proofs.btreap_insert.Tie as tie
+use Rattle.btreap.proofs.btreap_insert.Reads as reads
+use Rattle.btreap.proofs.btreap_insert.Lts as lts
+use Rattle.btreap.proofs.flat.inserted.Reads as inserted-reads
+use Rattle.index.proofs.insert.Reads as insert-reads
+
+insert-requires : tie.Need-insert-requires
+insert-requires c κs = search needs
+
+inserted-requires : tie.Need-inserted-requires
+inserted-requires c κs = search needs
+
+same-length : tie.Need-same-length
+same-length c = search needs
+
+returns : tie.Need-returns
+returns c = (c .inserted .ensures ∙ c .before .before .before .insert .ensures .0, search needs)
+
+pub btreap-insert-spec : {M : Type 1} → statement M
+btreap-insert-spec = tie.close (tie.spec insert-requires inserted-requires same-length returns)

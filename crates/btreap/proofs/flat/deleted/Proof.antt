@@ -1,0 +1,30 @@
+-- `btreap::flat::deleted` meets its contract. Assumes nothing.
+use mathlib.Core.Path.{sym, ap, _∙_}
+use mathlib.Core.List.{[], _∷_}
+use Rattle.replies.specs.Replies.{deletedOf, Reply}
+use Rattle.btreap.proofs.Refused.{refused}
+use borrow.Author.Needs.{needs}
+use Rattle.btreap.proofs.flat.deleted.Statement.{statement}
+use Rattle.btreap.proofs.flat.deleted.Tie as tie
+use Rattle.btreap.proofs.flat.deleted.Reads as reads
+use Rattle.btreap.proofs.flat.deleted.Lts as lts
+use Rattle.replies.proofs.number.Reads as number-reads
+
+enum-known-answer : tie.Need-enum-known-answer
+enum-known-answer c = search needs
+
+enum-known-answer-2 : tie.Need-enum-known-answer-2
+enum-known-answer-2 c = search needs
+
+number-requires : tie.Need-number-requires
+number-requires c κs = search needs
+
+returns : tie.Need-returns
+returns c = ap deletedOf (sym (c .before .answer .given .1))
+
+returns-2 : tie.Need-returns-2
+returns-2 c = refused (c .number .ensures) ∙ ap deletedOf (sym (c .before .before .answer2 .given .1))
+
+pub deleted-spec : {M : Type 1} → statement M
+deleted-spec =
+    tie.close (tie.spec enum-known-answer enum-known-answer-2 number-requires returns returns-2)

@@ -1,0 +1,223 @@
+// The answers of the calls as the structs of `include/btreap.h`: the number of a refusal, zero where there is none, and the other
+// numbers, zero where there is one.
+ghost use mathlib.Core.Path.{_≡_};
+ghost use Rattle.replies.specs.Replies.{setUpOf, builtOf, insertedOf, deletedOf, lookedUpOf, rangedOf, steppedOf, writtenOf, readBackOf, listedOf};
+ghost use Rattle.btreap.specs.Flat.{ranked, found, sized, stepped, markAfter};
+use replies::Built;
+use replies::Deleted;
+use replies::Inserted;
+use replies::Listed;
+use replies::LookedUp;
+use replies::Ranged;
+use replies::ReadBack;
+use replies::SetUp;
+use replies::Stepped;
+use replies::Written;
+
+// `btreap_ranked`.
+#[repr(C)]
+pub struct RankedReply {
+    pub refusal: u64,
+    pub rank: u64,
+}
+
+// `btreap_found`; `held` is one or zero.
+#[repr(C)]
+pub struct FoundReply {
+    pub refusal: u64,
+    pub held: u64,
+    pub rank: u64,
+    pub count: u64,
+    pub leader: u64,
+    pub blocks: u64,
+}
+
+// `btreap_sized`.
+#[repr(C)]
+pub struct SizedReply {
+    pub refusal: u64,
+    pub size: u64,
+}
+
+// `btreap_stepped`; `found` is one or zero.
+#[repr(C)]
+pub struct SteppedReply {
+    pub refusal: u64,
+    pub found: u64,
+    pub key: u64,
+    pub next: u64,
+    pub high: u64,
+    pub done: u64,
+}
+
+pub fn set_up(answer: SetUp) -> u64
+    ensures { λ r. ⌜ r ≡ setUpOf answer .refusal ⌝ }
+{
+    match answer {
+        SetUp::Done => 0,
+        SetUp::Refused(reason) => replies::number(reason),
+    }
+}
+
+pub fn built(answer: Built) -> u64
+    ensures { λ r. ⌜ r ≡ builtOf answer .refusal ⌝ }
+{
+    match answer {
+        Built::Done => 0,
+        Built::Refused(reason) => replies::number(reason),
+    }
+}
+
+pub fn inserted(answer: Inserted) -> RankedReply
+    ensures { λ r. ⌜ ranked r ≡ insertedOf answer ⌝ }
+{
+    match answer {
+        Inserted::Rank(rank) => RankedReply { refusal: 0, rank },
+        Inserted::Refused(reason) => RankedReply {
+            refusal: replies::number(reason),
+            rank: 0,
+        },
+    }
+}
+
+pub fn deleted(answer: Deleted) -> RankedReply
+    ensures { λ r. ⌜ ranked r ≡ deletedOf answer ⌝ }
+{
+    match answer {
+        Deleted::Rank(rank) => RankedReply { refusal: 0, rank },
+        Deleted::Refused(reason) => RankedReply {
+            refusal: replies::number(reason),
+            rank: 0,
+        },
+    }
+}
+
+pub fn looked_up(answer: LookedUp) -> FoundReply
+    ensures { λ r. ⌜ found r ≡ lookedUpOf answer ⌝ }
+{
+    match answer {
+        LookedUp::Held(standing, blocks) => FoundReply {
+            refusal: 0,
+            held: 1,
+            rank: standing.rank,
+            count: standing.count,
+            leader: standing.leader,
+            blocks: blocks as u64,
+        },
+        LookedUp::Absent(blocks) => FoundReply {
+            refusal: 0,
+            held: 0,
+            rank: 0,
+            count: 0,
+            leader: 0,
+            blocks: blocks as u64,
+        },
+        LookedUp::Refused(reason) => FoundReply {
+            refusal: replies::number(reason),
+            held: 0,
+            rank: 0,
+            count: 0,
+            leader: 0,
+            blocks: 0,
+        },
+    }
+}
+
+pub fn ranged(answer: Ranged) -> SizedReply
+    ensures { λ r. ⌜ sized r ≡ rangedOf answer ⌝ }
+{
+    match answer {
+        Ranged::Wrote(size) => SizedReply {
+            refusal: 0,
+            size: size as u64,
+        },
+        Ranged::Refused(reason) => SizedReply {
+            refusal: replies::number(reason),
+            size: 0,
+        },
+    }
+}
+
+pub fn written(answer: Written) -> SizedReply
+    ensures { λ r. ⌜ sized r ≡ writtenOf answer ⌝ }
+{
+    match answer {
+        Written::Bytes(size) => SizedReply {
+            refusal: 0,
+            size: size as u64,
+        },
+        Written::Refused(reason) => SizedReply {
+            refusal: replies::number(reason),
+            size: 0,
+        },
+    }
+}
+
+pub fn read_back(answer: ReadBack) -> u64
+    ensures { λ r. ⌜ r ≡ readBackOf answer .refusal ⌝ }
+{
+    match answer {
+        ReadBack::Done => 0,
+        ReadBack::Refused(reason) => replies::number(reason),
+    }
+}
+
+pub fn listed(answer: Listed) -> SizedReply
+    ensures { λ r. ⌜ sized r ≡ listedOf answer ⌝ }
+{
+    match answer {
+        Listed::Bytes(size) => SizedReply {
+            refusal: 0,
+            size: size as u64,
+        },
+        Listed::Refused(reason) => SizedReply {
+            refusal: replies::number(reason),
+            size: 0,
+        },
+    }
+}
+
+// The done mark after a step that was handed `before`: one that was set stays as it was.
+pub fn mark_after(before: u64, done: bool) -> u64
+    ensures { λ r. ⌜ r ≡ markAfter before done ⌝ }
+{
+    if !done {
+        return 0;
+    }
+    if before != 0 {
+        return before;
+    }
+    1
+}
+
+pub fn stepped(answer: Stepped, next: u64, high: u64, done: u64) -> SteppedReply
+    ensures { λ r. ⌜ stepped r ≡ steppedOf answer ⌝ }
+    ensures { λ r. ⌜ (r .next ≡ next) × (r .high ≡ high) × (r .done ≡ done) ⌝ }
+{
+    match answer {
+        Stepped::Key(key) => SteppedReply {
+            refusal: 0,
+            found: 1,
+            key,
+            next,
+            high,
+            done,
+        },
+        Stepped::End => SteppedReply {
+            refusal: 0,
+            found: 0,
+            key: 0,
+            next,
+            high,
+            done,
+        },
+        Stepped::Refused(reason) => SteppedReply {
+            refusal: replies::number(reason),
+            found: 0,
+            key: 0,
+            next,
+            high,
+            done,
+        },
+    }
+}

@@ -1,0 +1,117 @@
+// The calls of the index as functions that a C or a Rust program links. Each takes any words, numbers and bytes, keeps no state, and
+// changes none of the lent memory where it refuses.
+ghost use mathlib.Core.Path.{_≡_};
+ghost use Rattle.steps.specs.Steps.{stepReply, stepPlace};
+ghost use Rattle.calls.specs.Calls.{setUpReply, setUpAfter, buildReply, buildAfter, insertReply, insertAfter, deleteReply, deleteAfter, lookupReply, rangeReply, rangeOutput, writeReply, writeOutput, readReply, readAfter};
+ghost use Rattle.listed.specs.Listed.{listReply, listOutput};
+ghost use Rattle.btreap.specs.Flat.{ranked, found, sized, stepped, placeGiven, markAfter};
+use flat::FoundReply;
+use flat::RankedReply;
+use flat::SizedReply;
+use flat::SteppedReply;
+
+mod flat;
+
+// Refusals: 1, 2.
+#[no_mangle]
+pub extern "C" fn btreap_set_up(table: &mut [u64], order: u64) -> u64
+    ensures { λ r. ⌜ r ≡ setUpReply (now (table .entry)) order .refusal ⌝ }
+    ensures { λ _. ⌜ now (table .exit) ≡ setUpAfter (now (table .entry)) order ⌝ }
+{
+    let answer = index::set_up(table, order);
+    flat::set_up(answer)
+}
+
+// Refusals: 1, 2, 5, 10.
+#[no_mangle]
+pub extern "C" fn btreap_build(table: &mut [u64], order: u64, list: &[u64]) -> u64
+    ensures { λ r. ⌜ r ≡ buildReply (now (table .entry)) order (now (list .entry)) .refusal ⌝ }
+    ensures { λ _. ⌜ now (table .exit) ≡ buildAfter (now (table .entry)) order (now (list .entry)) ⌝ }
+{
+    let answer = index::build(table, order, list);
+    flat::built(answer)
+}
+
+// Refusals: 1, 3, 7, 8, 10.
+#[no_mangle]
+pub extern "C" fn btreap_insert(table: &mut [u64], key: u64) -> RankedReply
+    ensures { λ r. ⌜ ranked r ≡ insertReply (now (table .entry)) key ⌝ }
+    ensures { λ _. ⌜ now (table .exit) ≡ insertAfter (now (table .entry)) key ⌝ }
+{
+    let answer = index::insert(table, key);
+    flat::inserted(answer)
+}
+
+// Refusals: 1, 3, 7, 9.
+#[no_mangle]
+pub extern "C" fn btreap_delete(table: &mut [u64], key: u64) -> RankedReply
+    ensures { λ r. ⌜ ranked r ≡ deleteReply (now (table .entry)) key ⌝ }
+    ensures { λ _. ⌜ now (table .exit) ≡ deleteAfter (now (table .entry)) key ⌝ }
+{
+    let answer = index::delete(table, key);
+    flat::deleted(answer)
+}
+
+// Refusals: 1, 3, 7.
+#[no_mangle]
+pub extern "C" fn btreap_lookup(table: &[u64], key: u64) -> FoundReply
+    ensures { λ r. ⌜ found r ≡ lookupReply (now (table .entry)) key ⌝ }
+{
+    let answer = index::look_up(table, key);
+    flat::looked_up(answer)
+}
+
+// Refusals: 1, 4, 7, 11.
+#[no_mangle]
+pub extern "C" fn btreap_range(table: &[u64], low: u64, high: u64, output: &mut [u64]) -> SizedReply
+    ensures { λ r. ⌜ sized r ≡ rangeReply (now (table .entry)) low high (now (output .entry)) ⌝ }
+    ensures { λ _. ⌜ now (output .exit) ≡ rangeOutput (now (table .entry)) low high (now (output .entry)) ⌝ }
+{
+    let answer = index::range(table, low, high, output);
+    flat::ranged(answer)
+}
+
+// The place is done where `done` is not zero. Refusals: 1, 7.
+#[no_mangle]
+pub extern "C" fn btreap_step(table: &[u64], next: u64, high: u64, done: u64) -> SteppedReply
+    ensures { λ r. ⌜ stepped r ≡ stepReply (now (table .entry)) (placeGiven next high done) ⌝ }
+    ensures { λ r. ⌜ r .next ≡ stepPlace (now (table .entry)) (placeGiven next high done) .next ⌝ }
+    ensures { λ r. ⌜ r .high ≡ stepPlace (now (table .entry)) (placeGiven next high done) .high ⌝ }
+    ensures { λ r. ⌜ r .done ≡ markAfter done (stepPlace (now (table .entry)) (placeGiven next high done) .done) ⌝ }
+{
+    let moved = steps::step_at(table, next, high, done != 0);
+    let answer = moved.answer;
+    let place = moved.place;
+    let mark = flat::mark_after(done, place.done);
+    flat::stepped(answer, place.next, place.high, mark)
+}
+
+// Refusals: 1, 7, 11.
+#[no_mangle]
+pub extern "C" fn btreap_write(table: &[u64], output: &mut [u8]) -> SizedReply
+    ensures { λ r. ⌜ sized r ≡ writeReply (now (table .entry)) (now (output .entry)) ⌝ }
+    ensures { λ _. ⌜ now (output .exit) ≡ writeOutput (now (table .entry)) (now (output .entry)) ⌝ }
+{
+    let answer = images::write(table, output);
+    flat::written(answer)
+}
+
+// Refusals: 1, 6, 10.
+#[no_mangle]
+pub extern "C" fn btreap_read(table: &mut [u64], image: &[u8]) -> u64
+    ensures { λ r. ⌜ r ≡ readReply (now (table .entry)) (now (image .entry)) .refusal ⌝ }
+    ensures { λ _. ⌜ now (table .exit) ≡ readAfter (now (table .entry)) (now (image .entry)) ⌝ }
+{
+    let answer = images::read(table, image);
+    flat::read_back(answer)
+}
+
+// Refusals: 6, 11.
+#[no_mangle]
+pub extern "C" fn btreap_list(image: &[u8], output: &mut [u8]) -> SizedReply
+    ensures { λ r. ⌜ sized r ≡ listReply (now (image .entry)) (now (output .entry)) ⌝ }
+    ensures { λ _. ⌜ now (output .exit) ≡ listOutput (now (image .entry)) (now (output .entry)) ⌝ }
+{
+    let answer = listed::list(image, output);
+    flat::listed(answer)
+}

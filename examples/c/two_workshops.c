@@ -1,0 +1,87 @@
+/* Two workshops keep the same fingerprints, reached in different ways, and compare images.
+ *
+ *     cc two_workshops.c $(pkg-config --cflags --libs btreap) -o two_workshops
+ */
+#include <btreap.h>
+#include <inttypes.h>
+#include <stdio.h>
+#include <stdlib.h>
+#include <string.h>
+
+#define SLOTS 64
+#define WORDS BTREAP_TABLE_WORDS(SLOTS)
+
+/* End the program where a call was turned down. */
+static void accept(const char *call, uint64_t refusal)
+{
+    if (refusal != BTREAP_ACCEPTED) {
+        printf("%s: refused, %" PRIu64 "\n", call, refusal);
+        exit(1);
+    }
+}
+
+/* The first workshop inserts keys one by one, one too many, and deletes that one. */
+static void first_workshop(uint64_t *table)
+{
+    static const uint64_t keys[] = { 512, 7, 99, 3000, 41, 8 };
+    accept("set-up", btreap_set_up(table, WORDS, 3));
+    for (size_t i = 0; i < sizeof keys / sizeof keys[0]; i++)
+        accept("insert", btreap_insert(table, WORDS, keys[i]).refusal);
+    accept("delete", btreap_delete(table, WORDS, 99).refusal);
+}
+
+/* The second builds its table from a rising list. */
+static void second_workshop(uint64_t *table)
+{
+    static const uint64_t keys[] = { 7, 8, 41, 512, 3000 };
+    accept("build", btreap_build(table, WORDS, 3, keys, sizeof keys / sizeof keys[0]));
+}
+
+/* Every key of a table, step by step. */
+static void print_keys(const uint64_t *table)
+{
+    struct btreap_stepped at = { .next = 0, .high = UINT64_MAX, .done = 0 };
+    printf("keys:");
+    for (;;) {
+        at = btreap_step(table, WORDS, at.next, at.high, at.done);
+        accept("step", at.refusal);
+        if (!at.found)
+            break;
+        printf(" %" PRIu64, at.key);
+    }
+    printf("\n");
+}
+
+int main(void)
+{
+    static uint64_t first[WORDS], second[WORDS], third[WORDS];
+    static uint8_t one[BTREAP_LONGEST_IMAGE], other[BTREAP_LONGEST_IMAGE], text[10 * BTREAP_LONGEST_IMAGE];
+
+    first_workshop(first);
+    second_workshop(second);
+    print_keys(first);
+    printf("tables agree: %s\n", memcmp(first, second, sizeof first) == 0 ? "yes" : "no");
+
+    struct btreap_sized sent = btreap_write(first, WORDS, one, sizeof one);
+    struct btreap_sized kept = btreap_write(second, WORDS, other, sizeof other);
+    accept("write", sent.refusal);
+    accept("write", kept.refusal);
+    printf("image: %" PRIu64 " bytes\n", sent.size);
+    printf("images agree: %s\n", sent.size == kept.size && memcmp(one, other, sent.size) == 0 ? "yes" : "no");
+
+    struct btreap_found found = btreap_lookup(first, WORDS, 512);
+    accept("lookup", found.refusal);
+    printf("512: held %" PRIu64 ", rank %" PRIu64 ", count %" PRIu64 ", leader %" PRIu64 ", blocks %" PRIu64 "\n", found.held, found.rank,
+           found.count, found.leader, found.blocks);
+
+    accept("read", btreap_read(third, WORDS, one, sent.size));
+    printf("read back: %s\n", memcmp(third, first, sizeof first) == 0 ? "yes" : "no");
+
+    one[20] ^= 1;
+    printf("damaged image: refused, %" PRIu64 "\n", btreap_read(third, WORDS, one, sent.size));
+
+    struct btreap_sized listed = btreap_list(other, kept.size, text, sizeof text);
+    accept("list", listed.refusal);
+    fwrite(text, 1, listed.size, stdout);
+    return 0;
+}

@@ -1,0 +1,78 @@
+//! Two workshops keep the same fingerprints, reached in different ways, and compare images.
+
+use btreap::{Found, Place, Refusal};
+
+const SLOTS: usize = 64;
+
+/// The first workshop inserts keys one by one, one too many, and deletes that one.
+fn first_workshop(table: &mut [u64]) -> Result<(), Refusal> {
+    btreap::set_up(table, 3)?;
+    for key in [512, 7, 99, 3000, 41, 8] {
+        btreap::insert(table, key)?;
+    }
+    btreap::delete(table, 99)?;
+    Ok(())
+}
+
+/// The second builds its table from a rising list.
+fn second_workshop(table: &mut [u64]) -> Result<(), Refusal> {
+    btreap::build(table, 3, &[7, 8, 41, 512, 3000])
+}
+
+/// Every key of a table, step by step.
+fn print_keys(table: &[u64]) -> Result<(), Refusal> {
+    let mut place = Place::ALL;
+    print!("keys:");
+    while let Some(key) = btreap::step(table, &mut place)? {
+        print!(" {key}");
+    }
+    println!();
+    Ok(())
+}
+
+/// A table's image.
+fn image_of(table: &[u64]) -> Result<Vec<u8>, Refusal> {
+    let mut image = vec![0; btreap::LONGEST_IMAGE];
+    let size = btreap::write(table, &mut image)?;
+    image.truncate(size);
+    Ok(image)
+}
+
+fn yes_or_no(answer: bool) -> &'static str {
+    if answer {
+        "yes"
+    } else {
+        "no"
+    }
+}
+
+fn main() -> Result<(), Refusal> {
+    let mut first = vec![0; btreap::table_words(SLOTS)];
+    let mut second = first.clone();
+    let mut third = first.clone();
+    first_workshop(&mut first)?;
+    second_workshop(&mut second)?;
+    print_keys(&first)?;
+    println!("tables agree: {}", yes_or_no(first == second));
+
+    let (mut sent, kept) = (image_of(&first)?, image_of(&second)?);
+    println!("image: {} bytes", sent.len());
+    println!("images agree: {}", yes_or_no(sent == kept));
+
+    if let Found::Held { rank, count, leader, blocks } = btreap::look_up(&first, 512)? {
+        println!("512: held 1, rank {rank}, count {count}, leader {leader}, blocks {blocks}");
+    }
+
+    btreap::read(&mut third, &sent)?;
+    println!("read back: {}", yes_or_no(third == first));
+
+    sent[20] ^= 1;
+    if let Err(refusal) = btreap::read(&mut third, &sent) {
+        println!("damaged image: refused, {}", refusal.number());
+    }
+
+    let mut text = vec![0; 10 * kept.len()];
+    let size = btreap::list(&kept, &mut text)?;
+    print!("{}", String::from_utf8_lossy(&text[..size]));
+    Ok(())
+}

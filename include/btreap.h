@@ -1,0 +1,121 @@
+/* Wethpaol: a verified, uniquely represented index of 64-bit keys, kept in words that the caller lends.
+ *
+ * A set of keys (1 to 2^64 - 1) lives in a table: an array of uint64_t that belongs to the caller. Every word of a table is a function of
+ * its order, its number of slots and the set alone, however the set was reached. A table's image is a string of bytes; two sound tables
+ * have equal images exactly when their orders and sets are equal.
+ *
+ * The table.  BTREAP_TABLE_WORDS(M), that is 3 + 6*M words, for M slots, 1 to 4,096; it holds up to M keys. Make one of any words
+ *             with btreap_set_up, btreap_build or btreap_read; then do not write to it but by these calls.
+ * The order.  3 to 255, chosen at set-up or build: a block of the tree has up to about twice that many keys.
+ * The image.  15 + 14*b + 30*n bytes for n keys in b blocks; no image is longer than BTREAP_LONGEST_IMAGE = 180,239 bytes.
+ *
+ * Any words, numbers and bytes may be handed in: each call replies, and a call that refuses changes none of the lent memory. `refusal` is
+ * 0 when the call was accepted; all other numbers of a reply are 0 when it was refused. Of several refusals the lowest is given:
+ *
+ *    1  the number of words is not 3 + 6*M for an M from 1 to 4,096
+ *    2  the order is outside 3 to 255
+ *    3  the key is zero
+ *    4  low is above high
+ *    5  the list of keys does not rise strictly, or has a zero
+ *    6  the bytes are not an image of any order and any set of at most 4,096 keys
+ *    7  the table is not sound: some word is not what its order and keys make it
+ *    8  the key to insert is held
+ *    9  the key to delete is absent
+ *   10  there would be more keys than slots
+ *   11  the output is too short
+ *
+ * What the caller owes.  Each pointer points to as many elements as the length beside it says, aligned for their type; it may be null
+ * only where that length is 0. What a call writes to overlaps nothing else that it is handed, and no other thread uses it during the call.
+ *
+ * The calls keep no state, allocate nothing, print nothing and may run at the same time in any number of threads, on different tables or, where
+ * they only read it, on one. Stack: STACK_SENTENCE
+ *
+ * Link with -lbtreap (x86-64 Linux); the archive needs nothing but the C library's memory functions. `pkg-config --cflags --libs btreap`.
+ */
+#ifndef BTREAP_H
+#define BTREAP_H
+
+#include <stddef.h>
+#include <stdint.h>
+
+#ifdef __cplusplus
+extern "C" {
+#endif
+
+#define BTREAP_MOST_SLOTS 4096
+#define BTREAP_TABLE_WORDS(slots) (3 + 6 * (size_t)(slots))
+#define BTREAP_LEAST_ORDER 3
+#define BTREAP_GREATEST_ORDER 255
+#define BTREAP_LONGEST_IMAGE 180239
+
+/* Refusals. */
+#define BTREAP_ACCEPTED 0
+#define BTREAP_WRONG_LENGTH 1
+#define BTREAP_WRONG_ORDER 2
+#define BTREAP_ZERO_KEY 3
+#define BTREAP_LOW_ABOVE_HIGH 4
+#define BTREAP_NOT_RISING 5
+#define BTREAP_NOT_AN_IMAGE 6
+#define BTREAP_NOT_SOUND 7
+#define BTREAP_KEY_HELD 8
+#define BTREAP_KEY_ABSENT 9
+#define BTREAP_TOO_MANY_KEYS 10
+#define BTREAP_OUTPUT_TOO_SHORT 11
+
+struct btreap_ranked {
+    uint64_t refusal, rank;
+};
+
+struct btreap_found {
+    uint64_t refusal, held, rank, count, leader, blocks;
+};
+
+struct btreap_sized {
+    uint64_t refusal, size;
+};
+
+struct btreap_stepped {
+    uint64_t refusal, found, key, next, high, done;
+};
+
+/* Make of any words the blank table of an order. Gives the refusal: 1, 2. */
+uint64_t btreap_set_up(uint64_t *table, size_t words, uint64_t order);
+
+/* Make of any words the table of an order and of n strictly rising keys. Gives the refusal: 1, 2, 5, 10. */
+uint64_t btreap_build(uint64_t *table, size_t words, uint64_t order, const uint64_t *keys, size_t n);
+
+/* Insert a key; the rank that it then has. Refusals: 1, 3, 7, 8, 10. */
+struct btreap_ranked btreap_insert(uint64_t *table, size_t words, uint64_t key);
+
+/* Delete a key; the rank that it had. Refusals: 1, 3, 7, 9. */
+struct btreap_ranked btreap_delete(uint64_t *table, size_t words, uint64_t key);
+
+/* Look a key up: held is 1 or 0; rank, count and leader of a held key, zeros for an absent one; and how many different blocks hold the
+ * keys that were compared on the way down. Refusals: 1, 3, 7. */
+struct btreap_found btreap_lookup(const uint64_t *table, size_t words, uint64_t key);
+
+/* Write at the start of out the held keys from low to high, both included, rising; size is their number, and later words of out are as they
+ * were. Refusals: 1, 4, 7, 11. */
+struct btreap_sized btreap_range(const uint64_t *table, size_t words, uint64_t low, uint64_t high, uint64_t *out, size_t out_words);
+
+/* The range key by key: the least held key from next to high, unless done is set (not 0). found is 1 with a key, 0 at the end. Hand the
+ * three numbers next, high and done of the reply to the following step; begin with low, high, 0. A refusal gives the three as they were
+ * passed. Refusals: 1, 7. */
+struct btreap_stepped btreap_step(const uint64_t *table, size_t words, uint64_t next, uint64_t high, uint64_t done);
+
+/* Write the table's image at the start of out; size is its length in bytes, and later bytes of out are as they were.
+ * Refusals: 1, 7, 11. */
+struct btreap_sized btreap_write(const uint64_t *table, size_t words, uint8_t *out, size_t out_bytes);
+
+/* Make of any words the table whose image the bytes are. Gives the refusal: 1, 6, 10. */
+uint64_t btreap_read(uint64_t *table, size_t words, const uint8_t *image, size_t bytes);
+
+/* Write the text of an image at the start of out: a line for the header, each block and each key; size is its length in bytes, at most ten
+ * times the image's, and later bytes of out are as they were. Refusals: 6, 11. */
+struct btreap_sized btreap_list(const uint8_t *image, size_t bytes, uint8_t *out, size_t out_bytes);
+
+#ifdef __cplusplus
+}
+#endif
+
+#endif
