@@ -4,7 +4,7 @@ ghost use mathlib.Core.Path.{_≡_};
 ghost use Prim.Native.Nat.{_+_, _<_, _≤_};
 ghost use lib.ListN.{length, getD};
 ghost use Rattle.lists.specs.Lists.{member};
-ghost use Rattle.priority.specs.Priority.{priorityOf};
+ghost use Rattle.priority.specs.Priority.{HoldsConstants, priorityOf};
 ghost use Rattle.treap.specs.Levels.{rank};
 ghost use Rattle.structure.proofs.Blocks.{blockLevel};
 ghost use Rattle.table.specs.Layout.{mostSlots, tableWords, slotStart};
@@ -58,16 +58,25 @@ pub fn holds(table: &[u64], many: usize, key: u64) -> bool
     word_of(table, slot, KEY_FIELD) == key
 }
 
-// The slot of a key that the table holds.
-fn slot_of(table: &[u64], many: usize, key: u64) -> usize
-    requires { ⌜ (0 < many) × (many ≤ mostSlots) × (length (now table) ≡ tableWords many) × (soundWith many (now table) ≡ true) × (member key (contentsOf many (now table) .keys) ≡ true) ⌝ }
+// The slot of a key that the table holds; the constants of the priorities are lent.
+fn slot_of(table: &[u64], many: usize, key: u64, constants: &[u64; 2048]) -> usize
+    requires { ⌜ (0 < many) × (many ≤ mostSlots) × (length (now table) ≡ tableWords many) × (soundWith many (now table) ≡ true) × (member key (contentsOf many (now table) .keys) ≡ true) × HoldsConstants (now constants) ⌝ }
     ensures { λ r. ⌜ OnlyAt many (now (table .entry)) key r ⌝ }
 {
-    let found = find::find(table, many, key, priority::priority(key));
+    let found = find::find(table, many, key, priority::priority_from(constants, key));
     let Found::At(slot) = found else {
         return 0;
     };
     slot
+}
+
+// The rank of a key that the table holds; the constants of the priorities are lent.
+fn rank_in(table: &[u64], many: usize, key: u64, constants: &[u64; 2048]) -> u64
+    requires { ⌜ (0 < many) × (many ≤ mostSlots) × (length (now table) ≡ tableWords many) × (soundWith many (now table) ≡ true) × (member key (contentsOf many (now table) .keys) ≡ true) × HoldsConstants (now constants) ⌝ }
+    ensures { λ r. ⌜ r ≡ rank (contentsOf many (now (table .entry)) .order) priorityOf (contentsOf many (now (table .entry)) .keys) key ⌝ }
+{
+    let slot = slot_of(table, many, key, constants);
+    word_of(table, slot, RANK_FIELD)
 }
 
 // The rank of a key that the table holds.
@@ -76,8 +85,8 @@ pub fn rank_of(table: &[u64], many: usize, key: u64) -> u64
     requires { ⌜ (0 < many) × (many ≤ mostSlots) × (length (now table) ≡ tableWords many) × (soundWith many (now table) ≡ true) × (member key (contentsOf many (now table) .keys) ≡ true) ⌝ }
     ensures { λ r. ⌜ r ≡ rank (contentsOf many (now (table .entry)) .order) priorityOf (contentsOf many (now (table .entry)) .keys) key ⌝ }
 {
-    let slot = slot_of(table, many, key);
-    word_of(table, slot, RANK_FIELD)
+    let constants = priority::constant_table();
+    rank_in(table, many, key, &constants)
 }
 
 // The standing of the key in a slot.
@@ -116,10 +125,9 @@ fn next_of(table: &[u64], many: usize, slot: usize, at: u64, key: u64) -> u64
 }
 
 // The way down the table's treap from its root to `key`, or to where `key` would hang. A new block is met whenever the
-// level changes; a table without keys has none.
-// Internal to this library's crates: their tables are judged before, and their keys are not zero.
-pub fn look_up(table: &[u64], many: usize, key: u64) -> Looked
-    requires { ⌜ (0 < many) × (many ≤ mostSlots) × (length (now table) ≡ tableWords many) × (soundWith many (now table) ≡ true) × (1 ≤ key) ⌝ }
+// level changes; a table without keys has none. The constants of the priorities are lent.
+fn descend(table: &[u64], many: usize, key: u64, constants: &[u64; 2048]) -> Looked
+    requires { ⌜ (0 < many) × (many ≤ mostSlots) × (length (now table) ≡ tableWords many) × (soundWith many (now table) ≡ true) × (1 ≤ key) × HoldsConstants (now constants) ⌝ }
     ensures { λ r. ⌜ r ≡ lookedUp (contentsOf many (now (table .entry))) key ⌝ }
 {
     let root = table[ROOT_WORD];
@@ -127,10 +135,10 @@ pub fn look_up(table: &[u64], many: usize, key: u64) -> Looked
         return Looked::Absent(0);
     }
     let mut at = root;
-    let mut level = rank_of(table, many, root);
+    let mut level = rank_in(table, many, root, constants);
     let mut met = 1;
     while at != 0 {
-        let slot = slot_of(table, many, at);
+        let slot = slot_of(table, many, at, constants);
         let here = level_of(table, many, slot, at);
         if here != level {
             met += 1;
@@ -142,4 +150,14 @@ pub fn look_up(table: &[u64], many: usize, key: u64) -> Looked
         at = next_of(table, many, slot, at, key);
     }
     Looked::Absent(met)
+}
+
+// The way down the table's treap to `key`.
+// Internal to this library's crates: their tables are judged before, and their keys are not zero.
+pub fn look_up(table: &[u64], many: usize, key: u64) -> Looked
+    requires { ⌜ (0 < many) × (many ≤ mostSlots) × (length (now table) ≡ tableWords many) × (soundWith many (now table) ≡ true) × (1 ≤ key) ⌝ }
+    ensures { λ r. ⌜ r ≡ lookedUp (contentsOf many (now (table .entry))) key ⌝ }
+{
+    let constants = priority::constant_table();
+    descend(table, many, key, &constants)
 }

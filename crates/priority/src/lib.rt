@@ -17,14 +17,15 @@ const BYTE_VALUES: u64 = 256;
 const HOME_DIVISOR: u64 = 65536;
 
 // The table of the constants. A call stores all of them, so it is made once and lent where there are many keys.
-fn constant_table() -> [u64; CONSTANT_COUNT]
+pub fn constant_table() -> [u64; CONSTANT_COUNT]
     ensures { λ r. ⌜ HoldsConstants r ⌝ }
 {
     CONSTANTS
 }
 
 // The priority of `key`: the exclusive or of one constant for each of its bytes, the lowest first.
-fn priority_from(constants: &[u64; CONSTANT_COUNT], key: u64) -> u64
+// Internal to this library's crates: they lend the table of the constants.
+pub fn priority_from(constants: &[u64; CONSTANT_COUNT], key: u64) -> u64
     requires { ⌜ HoldsConstants (now constants) ⌝ }
     ensures { λ r. ⌜ r ≡ priorityOf key ⌝ }
 {
@@ -49,7 +50,7 @@ fn priorities_from(constants: &[u64; CONSTANT_COUNT], keys: &[u64], output: &mut
     }
 }
 
-// The priority of `key`. It makes the table of the constants anew: for many keys, call `priorities`.
+// The priority of `key`. It makes the table of the constants anew: for many keys, lend one to `priority_from`, or call `priorities`.
 pub fn priority(key: u64) -> u64
     ensures { λ r. ⌜ r ≡ priorityOf key ⌝ }
 {

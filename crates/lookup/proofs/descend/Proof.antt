@@ -1,4 +1,4 @@
--- `lookup::look_up` meets its contract. The loop's invariant: what is left to search is the subtree of `at`, and the blocks met
+-- `lookup::descend` meets its contract. The loop's invariant: what is left to search is the subtree of `at`, and the blocks met
 -- with the changes of level ahead are the blocks of the whole way. The measure is the size of that subtree. Assumes nothing.
 use mathlib.Core.Bool.{true}
 use mathlib.Core.Logic.{inl, inr, ⊎-elim}
@@ -16,14 +16,14 @@ use Rattle.lookup.proofs.Answers.{key-in-slot}
 use Rattle.lookup.proofs.Fields.{root-is}
 use Rattle.lookup.proofs.Changes.{Counted}
 use Rattle.lookup.proofs.WayDown.{rest, Searching, none-held, root-held, starts, at-held, room, found, smaller, goes-on, absent}
-use Rattle.lookup.proofs.look_up.Statement.{statement}
-use Rattle.lookup.proofs.look_up.Tie as tie
+use Rattle.lookup.proofs.descend.Statement.{statement}
+use Rattle.lookup.proofs.descend.Tie as tie
 
 abbrev Inv-loop : tie.InvT-loop
-Inv-loop table many key root at₀ level₀ met₀ at level met = Searching (contentsOf many table) key at level met
+Inv-loop table many key constants root at₀ level₀ met₀ at level met = Searching (contentsOf many table) key at level met
 
 abbrev μ-loop : tie.MeasureT-loop
-μ-loop table many key root at₀ level₀ met₀ at level met = size (rest (contentsOf many table) at)
+μ-loop table many key constants root at₀ level₀ met₀ at level met = size (rest (contentsOf many table) at)
 
 -- the words lent are 64-bit numbers, so that what the table shows is valid
 sized : (p : tie.After-shared-slice-known Inv-loop μ-loop) → WordSized (p .before .args .table .now)
@@ -62,14 +62,14 @@ returns c =
     let words = start .args .table .now in
     none-held many (contentsOf many words) (valid known) (start .args .key) (sym (root-is many words (start .pre .3)) ∙ c .if1 .taken)
 
-rank-of-requires : tie.Need-rank-of-requires Inv-loop μ-loop
-rank-of-requires c κs =
+rank-in-requires : tie.Need-rank-in-requires Inv-loop μ-loop
+rank-in-requires c κs =
     let known = c .before .before in
     let start = known .before in
     let pre = start .pre in
     let many = start .args .many in
     let words = start .args .table .now in
-    (pre .0, pre .1, pre .2, pre .3, root-held many (contentsOf many words) (valid known) _ (root-is many words (pre .3)) (c .if1 .left))
+    (pre .0, pre .1, pre .2, pre .3, root-held many (contentsOf many words) (valid known) _ (root-is many words (pre .3)) (c .if1 .left), pre .5)
 
 loop-holds : tie.Need-loop-holds Inv-loop μ-loop
 loop-holds c =
@@ -77,12 +77,12 @@ loop-holds c =
     let start = known .before in
     let many = start .args .many in
     let words = start .args .table .now in
-    starts many (contentsOf many words) (valid known) (start .args .key) _ (c .rank-of .result) (root-is many words (start .pre .3)) (c .before .if1 .left) (c .rank-of .ensures)
+    starts many (contentsOf many words) (valid known) (start .args .key) _ (c .rank-in .result) (root-is many words (start .pre .3)) (c .before .if1 .left) (c .rank-in .ensures)
 
 slot-of-requires : tie.Need-slot-of-requires Inv-loop μ-loop
 slot-of-requires c κs =
     let pre = c .before .before .before .before .before .before .pre in
-    (pre .0, pre .1, pre .2, pre .3, at-is-held c)
+    (pre .0, pre .1, pre .2, pre .3, at-is-held c, pre .5)
 
 level-of-requires : tie.Need-level-of-requires Inv-loop μ-loop
 level-of-requires c κs = in-slot c
@@ -145,15 +145,15 @@ returns-3 c =
     let loop = c .before .loop in
     absent (args .many) (contentsOf (args .many) (args .table .now)) (valid known) (args .key) (loop .at) (loop .level) (loop .met) (loop .inv) (c .loop-test .left)
 
-pub look-up-spec : {M : Type 1} → statement M
-look-up-spec =
+pub descend-spec : {M : Type 1} → statement M
+descend-spec =
     tie.close
     (tie.spec
     Inv-loop
     μ-loop
     shared-slice-read-root
     returns
-    rank-of-requires
+    rank-in-requires
     loop-holds
     slot-of-requires
     level-of-requires
