@@ -163,7 +163,7 @@ module _ (room : ℕ) (bytes : List ℕ) (e : readable room bytes ≡ true) wher
   unfolding readable keysOf
   readable-fits other few enough =
       let inside =
-          keys-inside (blocksOf bytes) (drop headerBytes bytes)
-          (and-left (intact (blocksOf bytes) (drop headerBytes bytes)) _ (and-right (leb headerBytes (length bytes)) _ e))
+      keys-inside (blocksOf bytes) (drop headerBytes bytes)
+      (and-left (intact (blocksOf bytes) (drop headerBytes bytes)) _ (and-right (leb headerBytes (length bytes)) _ e))
       in
       enough (length (keysOf bytes)) (omega (arith, readable-few, few)) (omega (arith, inside, readable-header, length-drop headerBytes bytes))
