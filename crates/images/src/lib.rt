@@ -4,6 +4,7 @@ ghost use mathlib.Core.Path.{_≡_};
 ghost use Prim.Native.Nat.{_<_, _≤_};
 ghost use lib.ListN.{length};
 ghost use Rattle.table.specs.Layout.{mostSlots, tableWords};
+ghost use Rattle.reading.specs.Reading.{RoomFor};
 ghost use Rattle.replies.specs.Replies.{writtenOf, readBackOf};
 ghost use Rattle.calls.specs.Calls.{writeReply, writeOutput, readReply, readAfter};
 use image::ORDER_AT;
@@ -70,7 +71,7 @@ pub fn write(table: &[u64], output: &mut [u8]) -> Written
 
 // Make a table of `many` slots of an image, with `keys` to work in.
 fn read_in(table: &mut [u64], many: usize, image: &[u8], keys: &mut [u64]) -> ReadBack
-    requires { ⌜ (0 < many) × (many ≤ mostSlots) × (length (now table) ≡ tableWords many) × (mostSlots ≤ length (now keys)) ⌝ }
+    requires { ⌜ (0 < many) × (many ≤ mostSlots) × (length (now table) ≡ tableWords many) × RoomFor (length (now image)) (length (now keys)) ⌝ }
     ensures { λ r. ⌜ readBackOf r ≡ readReply (now (table .entry)) (now (image .entry)) ⌝ }
     ensures { λ _. ⌜ now (table .exit) ≡ readAfter (now (table .entry)) (now (image .entry)) ⌝ }
 {
@@ -86,8 +87,18 @@ fn read_in(table: &mut [u64], many: usize, image: &[u8], keys: &mut [u64]) -> Re
     ReadBack::Done
 }
 
+// With room for the keys of an image of up to 15,375 bytes.
+fn read_few(table: &mut [u64], many: usize, image: &[u8]) -> ReadBack
+    requires { ⌜ (0 < many) × (many ≤ mostSlots) × (length (now table) ≡ tableWords many) × (length (now image) ≤ 15375) ⌝ }
+    ensures { λ r. ⌜ readBackOf r ≡ readReply (now (table .entry)) (now (image .entry)) ⌝ }
+    ensures { λ _. ⌜ now (table .exit) ≡ readAfter (now (table .entry)) (now (image .entry)) ⌝ }
+{
+    let mut keys = [0u64; 512];
+    read_in(table, many, image, &mut keys)
+}
+
 // With room for the most keys that an image has.
-fn read_lent(table: &mut [u64], many: usize, image: &[u8]) -> ReadBack
+fn read_many(table: &mut [u64], many: usize, image: &[u8]) -> ReadBack
     requires { ⌜ (0 < many) × (many ≤ mostSlots) × (length (now table) ≡ tableWords many) ⌝ }
     ensures { λ r. ⌜ readBackOf r ≡ readReply (now (table .entry)) (now (image .entry)) ⌝ }
     ensures { λ _. ⌜ now (table .exit) ≡ readAfter (now (table .entry)) (now (image .entry)) ⌝ }
@@ -105,5 +116,8 @@ pub fn read(table: &mut [u64], image: &[u8]) -> ReadBack
     if many == 0 {
         return ReadBack::Refused(Refusal::WrongLength);
     }
-    read_lent(table, many, image)
+    if image.len() <= 15375 {
+        return read_few(table, many, image);
+    }
+    read_many(table, many, image)
 }

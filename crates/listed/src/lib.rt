@@ -2,6 +2,7 @@
 ghost use mathlib.Core.Path.{_≡_};
 ghost use Prim.Native.Nat.{_≤_};
 ghost use lib.ListN.{length};
+ghost use Rattle.reading.specs.Reading.{RoomFor};
 ghost use Rattle.table.specs.Layout.{tableWords};
 ghost use Rattle.text.specs.Written.{Written};
 ghost use Rattle.replies.specs.Replies.{listedOf};
@@ -18,7 +19,7 @@ pub const PROGRAM_ROOM: usize = 440150;
 
 // Write the listing of an image, with `keys` to work in.
 fn list_in(image: &[u8], keys: &mut [u64], output: &mut [u8]) -> Listed
-    requires { ⌜ 4096 ≤ length (now keys) ⌝ }
+    requires { ⌜ RoomFor (length (now image)) (length (now keys)) ⌝ }
     ensures { λ r. ⌜ listedOf r ≡ listReply (now (image .entry)) (now (output .entry)) ⌝ }
     ensures { λ _. ⌜ now (output .exit) ≡ listOutput (now (image .entry)) (now (output .entry)) ⌝ }
 {
@@ -32,13 +33,34 @@ fn list_in(image: &[u8], keys: &mut [u64], output: &mut [u8]) -> Listed
     Listed::Bytes(listing::write(image, output))
 }
 
-// Write the text of an image at the start of `output`; how many bytes it has. Refusals: 6, 11.
-pub fn list(image: &[u8], output: &mut [u8]) -> Listed
+// Write the listing of an image of up to 15,375 bytes.
+fn list_few(image: &[u8], output: &mut [u8]) -> Listed
+    requires { ⌜ length (now image) ≤ 15375 ⌝ }
+    ensures { λ r. ⌜ listedOf r ≡ listReply (now (image .entry)) (now (output .entry)) ⌝ }
+    ensures { λ _. ⌜ now (output .exit) ≡ listOutput (now (image .entry)) (now (output .entry)) ⌝ }
+{
+    let mut keys = [0u64; 512];
+    list_in(image, &mut keys, output)
+}
+
+// Write the listing of an image of up to 4,096 keys.
+fn list_many(image: &[u8], output: &mut [u8]) -> Listed
     ensures { λ r. ⌜ listedOf r ≡ listReply (now (image .entry)) (now (output .entry)) ⌝ }
     ensures { λ _. ⌜ now (output .exit) ≡ listOutput (now (image .entry)) (now (output .entry)) ⌝ }
 {
     let mut keys = [0u64; 4096];
     list_in(image, &mut keys, output)
+}
+
+// Write the text of an image at the start of `output`; how many bytes it has. Refusals: 6, 11.
+pub fn list(image: &[u8], output: &mut [u8]) -> Listed
+    ensures { λ r. ⌜ listedOf r ≡ listReply (now (image .entry)) (now (output .entry)) ⌝ }
+    ensures { λ _. ⌜ now (output .exit) ≡ listOutput (now (image .entry)) (now (output .entry)) ⌝ }
+{
+    if image.len() <= 15375 {
+        return list_few(image, output);
+    }
+    list_many(image, output)
 }
 
 // The refusal of an image that is read into a table of 1,000 slots; 0 for none.

@@ -5,14 +5,14 @@ use mathlib.Core.Path.{_≡_, refl, sym, ap, ap₂, _∙_, subst}
 use Prim.Native.Nat.{ℕ, zero, suc, _+_, _*_, _<_, _≤_}
 use native.Mathlib.Omega.{arith}
 use lib.Dec.{eqb, ltb, leb}
-use lib.ListN.{length, getD, drop, length-append}
+use lib.ListN.{length, getD, drop, length-append, length-drop, length-map}
 use lib.Seq.{getD-append-add}
-use borrow.Author.Tests.{le-leb}
+use borrow.Author.Tests.{le-leb, leb-true}
 use Rattle.lists.specs.Lists.{All, every, upFrom, sortBy}
-use Rattle.lists.proofs.Tests.{by-test, true-or-false, and-both}
+use Rattle.lists.proofs.Tests.{by-test, true-or-false, and-both, and-left, and-right}
 use Rattle.lists.proofs.Sorted.{sorted-length}
 use Rattle.lists.proofs.Keep.{all-map, every-when}
-use Rattle.lists.proofs.UpFrom.{upFrom-within}
+use Rattle.lists.proofs.UpFrom.{upFrom-within, upFrom-length}
 use Rattle.priority.specs.Priority.{priorityOf}
 use Rattle.treap.specs.Treap.{leftLink, rightLink}
 use Rattle.treap.specs.Levels.{rank, count}
@@ -21,12 +21,12 @@ use Rattle.treap.specs.Image.{nodeRecord, nodeOf, blockPart, countBytes}
 use Rattle.table.specs.Layout.{mostSlots}
 use Rattle.table.specs.Contents.{Contents, Valid}
 use Rattle.image.specs.Layout.{headerBytes, blockBytes, nodeBytes, heldAt}
-use Rattle.image.specs.Image.{imageOf, readImage, isImage}
+use Rattle.image.specs.Image.{imageOf, fieldAt, nodeKeys, blockKeys, readImage, isImage}
 use Rattle.image.proofs.Bytes.{IsByte}
 use Rattle.image.proofs.Judging.{is-image-says}
 use Rattle.image.proofs.Lengths.{nodeOf-length, blockPart-length, image-length}
 use Rattle.image.proofs.Reading.{Readable, part-held, part-nodes, part-dropped, blocks-readable, number-read, parts-read, keys-read, read-of-image}
-use Rattle.reading.specs.Reading.{markedAt, marked, blockSpan, intact, blocksOf, keysOf, readable}
+use Rattle.reading.specs.Reading.{markedAt, marked, blockSpan, intact, blocksOf, keysOf, readable, RoomFor}
 
 -- a mark further on, behind so many bytes
 mark-after : (front rest : List ℕ) (size at : ℕ) → length front ≡ size → markedAt (front ++ rest) (size + at) ≡ markedAt rest at
@@ -94,28 +94,76 @@ module _ (c : Contents) (valid : Valid mostSlots c) where
       ap₂ intact blocks-number (parts-read c valid)
       ∙ blocks-intact (c .order) priorityOf (c .keys) (blocks (c .order) priorityOf (c .keys)) (blocks-readable c valid)
 
-  keys-few : length (keysOf (imageOf c)) ≤ mostSlots
+  keys-number : length (keysOf (imageOf c)) ≡ length (c .keys)
   unfolding keysOf blocksOf readImage
-  keys-few =
+  keys-number =
       let shown : sortBy ltb (keysOf (imageOf c)) ≡ c .keys = ap (λ (d : Contents). d .keys) (read-of-image c valid) in
-      let fit = valid .keys-fit in
-      omega (arith, ap length shown, sorted-length (keysOf (imageOf c)))
+      sym (sorted-length (keysOf (imageOf c))) ∙ ap length shown
 
-  pub image-readable : readable mostSlots (imageOf c) ≡ true
+  pub image-readable : (room : ℕ) → RoomFor (length (imageOf c)) room → readable room (imageOf c) ≡ true
   unfolding readable
-  image-readable =
+  image-readable room enough =
+      let long = image-length c valid in
+      let fit = valid .keys-fit in
+      let few : length (c .keys) ≤ room = enough (length (c .keys)) fit (omega (arith, long)) in
       and-both (leb headerBytes (length (imageOf c))) _
-      (le-leb headerBytes (length (imageOf c)) (omega (arith, image-length c valid)))
-      (and-both (intact (blocksOf (imageOf c)) (drop headerBytes (imageOf c))) (leb (length (keysOf (imageOf c))) mostSlots) image-intact
-      (le-leb (length (keysOf (imageOf c))) mostSlots keys-few))
+      (le-leb headerBytes (length (imageOf c)) (omega (arith, long)))
+      (and-both (intact (blocksOf (imageOf c)) (drop headerBytes (imageOf c))) (leb (length (keysOf (imageOf c))) room) image-intact
+      (le-leb (length (keysOf (imageOf c))) room (omega (arith, few, keys-number))))
 
--- what cannot be read is no image
-pub unreadable : (bytes : List ℕ) → All IsByte bytes → readable mostSlots bytes ≡ false → isImage bytes ≡ false
-unreadable bytes sized e =
+-- what cannot be read, though there is room for the keys of an image, is no image
+pub unreadable : (room : ℕ) (bytes : List ℕ) → RoomFor (length bytes) room → All IsByte bytes → readable room bytes ≡ false → isImage bytes ≡ false
+unreadable room bytes enough sized e =
     by-test (isImage bytes)
     (λ t.
     let right = is-image-says bytes t sized in
     absurd
-    (true-or-false (readable mostSlots bytes)
-    (ap (readable mostSlots) (right .1) ∙ image-readable (readImage bytes) (right .0)) e))
+    (true-or-false (readable room bytes)
+    (ap (readable room) (right .1)
+    ∙ image-readable (readImage bytes) (right .0) room (subst (λ (b : List ℕ). RoomFor (length b) room) (right .1) enough))
+    e))
     (λ t. t)
+
+-- ---- keys that can be read lie within the bytes
+node-number : (held : ℕ) (bytes : List ℕ) → length (nodeKeys held bytes) ≡ held
+unfolding nodeKeys
+node-number held bytes = length-map (upFrom 0 held) _ ∙ upFrom-length 0 held
+
+keys-inside : (many : ℕ) (bytes : List ℕ) → intact many bytes ≡ true → nodeBytes * length (blockKeys many bytes) ≤ length bytes
+unfolding blockSpan
+keys-inside zero bytes h = omega arith
+keys-inside (suc many) bytes h =
+    let held = fieldAt heldAt countBytes bytes in
+    let span = blockBytes + nodeBytes * held in
+    let fits = leb-true span (length bytes) (and-left (leb span (length bytes)) _ h) in
+    let later = keys-inside many (drop span bytes) (and-right (marked held (drop blockBytes bytes)) _ (and-right (leb span (length bytes)) _ h)) in
+    omega (
+      arith,
+      fits,
+      later,
+      length-drop span bytes,
+      length-append (nodeKeys held (drop blockBytes bytes)) (blockKeys many (drop span bytes)),
+      node-number held (drop blockBytes bytes),
+    )
+
+module _ (room : ℕ) (bytes : List ℕ) (e : readable room bytes ≡ true) where
+  -- what can be read has a header, and keys for which there is room
+  pub readable-header : headerBytes ≤ length bytes
+  unfolding readable
+  readable-header = leb-true headerBytes (length bytes) (and-left (leb headerBytes (length bytes)) _ e)
+
+  pub readable-few : length (keysOf bytes) ≤ room
+  unfolding readable
+  readable-few =
+      leb-true (length (keysOf bytes)) room
+      (and-right (intact (blocksOf bytes) (drop headerBytes bytes)) _ (and-right (leb headerBytes (length bytes)) _ e))
+
+  -- so there is room for them wherever there is room for the keys of an image
+  pub readable-fits : (other : ℕ) → room ≤ mostSlots → RoomFor (length bytes) other → length (keysOf bytes) ≤ other
+  unfolding readable keysOf
+  readable-fits other few enough =
+      let inside =
+      keys-inside (blocksOf bytes) (drop headerBytes bytes)
+      (and-left (intact (blocksOf bytes) (drop headerBytes bytes)) _ (and-right (leb headerBytes (length bytes)) _ e))
+      in
+      enough (length (keysOf bytes)) (omega (arith, readable-few, few)) (omega (arith, inside, readable-header, length-drop headerBytes bytes))

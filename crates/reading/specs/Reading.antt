@@ -1,11 +1,12 @@
 -- What walking the records of an image finds: whether they lie within the bytes, and their keys. Assumes nothing.
 use mathlib.Core.Bool.{Bool, true, cond, _&&_}
 use mathlib.Core.List.{List}
-use Prim.Native.Nat.{ℕ, zero, suc, _+_, _*_}
+use Prim.Native.Nat.{ℕ, zero, suc, _+_, _*_, _≤_}
 use lib.Dec.{eqb, leb}
 use lib.ListN.{length, drop, getD}
 use Rattle.lists.specs.Lists.{every, upFrom}
 use Rattle.treap.specs.Image.{countBytes}
+use Rattle.table.specs.Layout.{mostSlots}
 use Rattle.image.specs.Layout.{headerBytes, blockBytes, nodeBytes, blocksAt, heldAt}
 use Rattle.image.specs.Image.{fieldAt, blockKeys}
 use Rattle.reading.specs.declared.Collected.{Collected}
@@ -46,3 +47,7 @@ readable room bytes =
 -- What collecting the keys finds.
 unfoldable pub collected : ℕ → List ℕ → Collected
 collected room bytes = cond (readable room bytes) (Keys (length (keysOf bytes))) Broken
+
+-- There is room for the keys of every image of so many bytes: it has at most so many as its node records have room, and at most 4,096.
+abbrev pub RoomFor : ℕ → ℕ → Type 0
+RoomFor bytes room = (n : ℕ) → n ≤ mostSlots → headerBytes + nodeBytes * n ≤ bytes → n ≤ room

@@ -149,17 +149,6 @@ module _ (room : ℕ) (bytes : List ℕ) where
   unfolding collected
   told-number n e = sym (ap sizeIn e) ∙ ap (λ b. sizeIn (cond b (collecting.Keys (length (keysOf bytes))) collecting.Broken)) (told-readable n e)
 
-  -- what can be read has a header, and keys for which there is room
-  pub readable-header : readable room bytes ≡ true → headerBytes ≤ length bytes
-  unfolding readable
-  readable-header e = leb-true headerBytes (length bytes) (and-left (leb headerBytes (length bytes)) _ e)
-
-  pub readable-few : readable room bytes ≡ true → length (keysOf bytes) ≤ room
-  unfolding readable
-  readable-few e =
-      leb-true (length (keysOf bytes)) room
-      (and-right (intact (blocksOf bytes) (drop headerBytes bytes)) _ (and-right (leb headerBytes (length bytes)) _ e))
-
 -- ---- the lists
 -- the keys collected, then sorted
 pub sorted-shown : (bytes lent held : List ℕ) (n : ℕ) → held ≡ overwrite lent 0 (keysOf bytes) → n ≡ length (keysOf bytes)

@@ -6,6 +6,7 @@ ghost use lib.ListN.{length};
 ghost use Rattle.lists.specs.Lists.{overwrite, same};
 ghost use Rattle.table.specs.Layout.{mostSlots};
 ghost use Rattle.image.specs.Image.{readImage, isImage};
+ghost use Rattle.reading.specs.Reading.{RoomFor};
 ghost use Rattle.recognize.specs.Recognize.{recognized};
 use image::MOST_BYTES;
 use image::ORDER_AT;
@@ -46,7 +47,8 @@ fn recognize_in(
     copy: &mut [u8],
     keys: &mut [u64],
 ) -> Recognized
-    requires { ⌜ (length (now held) ≡ mostSlots) × (mostSlots ≤ length (now weights)) × (mostSlots ≤ length (now ranking)) × (mostSlots ≤ length (now spare)) × (mostSlots ≤ length (now keys)) × (length (now copy) ≡ length (now image)) ⌝ }
+    requires { ⌜ (length (now held) ≤ mostSlots) × (length (now copy) ≡ length (now image)) ⌝ }
+    requires { ⌜ RoomFor (length (now image)) (length (now held)) × RoomFor (length (now image)) (length (now weights)) × RoomFor (length (now image)) (length (now ranking)) × RoomFor (length (now image)) (length (now spare)) × RoomFor (length (now image)) (length (now keys)) ⌝ }
     ensures { λ r. ⌜ r ≡ recognized (now (image .entry)) ⌝ }
     ensures { λ _. ⌜ (isImage (now (image .entry)) ≡ true → now (keys .exit) ≡ overwrite (now (keys .entry)) 0 (readImage (now (image .entry)) .keys)) ⌝ }
 {
@@ -82,7 +84,8 @@ fn recognize_within(
     copy: &mut [u8],
     keys: &mut [u64],
 ) -> Recognized
-    requires { ⌜ (length (now held) ≡ mostSlots) × (mostSlots ≤ length (now weights)) × (mostSlots ≤ length (now ranking)) × (mostSlots ≤ length (now spare)) × (mostSlots ≤ length (now keys)) × (length (now image) ≤ length (now copy)) ⌝ }
+    requires { ⌜ (length (now held) ≤ mostSlots) × (length (now image) ≤ length (now copy)) ⌝ }
+    requires { ⌜ RoomFor (length (now image)) (length (now held)) × RoomFor (length (now image)) (length (now weights)) × RoomFor (length (now image)) (length (now ranking)) × RoomFor (length (now image)) (length (now spare)) × RoomFor (length (now image)) (length (now keys)) ⌝ }
     ensures { λ r. ⌜ r ≡ recognized (now (image .entry)) ⌝ }
     ensures { λ _. ⌜ (isImage (now (image .entry)) ≡ true → now (keys .exit) ≡ overwrite (now (keys .entry)) 0 (readImage (now (image .entry)) .keys)) ⌝ }
 {
@@ -98,17 +101,39 @@ fn recognize_within(
     )
 }
 
-// An image of up to 4,096 bytes.
-fn recognize_short(image: &[u8], keys: &mut [u64]) -> Recognized
-    requires { ⌜ (length (now image) ≤ 4096) × (mostSlots ≤ length (now keys)) ⌝ }
+// An image of up to 1,935 bytes, which has at most 64 keys.
+fn recognize_small(image: &[u8], keys: &mut [u64]) -> Recognized
+    requires { ⌜ (length (now image) ≤ 1935) × RoomFor (length (now image)) (length (now keys)) ⌝ }
     ensures { λ r. ⌜ r ≡ recognized (now (image .entry)) ⌝ }
     ensures { λ _. ⌜ (isImage (now (image .entry)) ≡ true → now (keys .exit) ≡ overwrite (now (keys .entry)) 0 (readImage (now (image .entry)) .keys)) ⌝ }
 {
-    let mut held = [0u64; 4096];
-    let mut weights = [0u64; 4096];
-    let mut ranking = [0u64; 4096];
-    let mut spare = [0u64; 4096];
-    let mut copy = [0u8; 4096];
+    let mut held = [0u64; 64];
+    let mut weights = [0u64; 64];
+    let mut ranking = [0u64; 64];
+    let mut spare = [0u64; 64];
+    let mut copy = [0u8; 1935];
+    recognize_within(
+        image,
+        &mut held,
+        &mut weights,
+        &mut ranking,
+        &mut spare,
+        &mut copy,
+        keys,
+    )
+}
+
+// An image of up to 15,375 bytes, which has at most 512 keys.
+fn recognize_medium(image: &[u8], keys: &mut [u64]) -> Recognized
+    requires { ⌜ (length (now image) ≤ 15375) × RoomFor (length (now image)) (length (now keys)) ⌝ }
+    ensures { λ r. ⌜ r ≡ recognized (now (image .entry)) ⌝ }
+    ensures { λ _. ⌜ (isImage (now (image .entry)) ≡ true → now (keys .exit) ≡ overwrite (now (keys .entry)) 0 (readImage (now (image .entry)) .keys)) ⌝ }
+{
+    let mut held = [0u64; 512];
+    let mut weights = [0u64; 512];
+    let mut ranking = [0u64; 512];
+    let mut spare = [0u64; 512];
+    let mut copy = [0u8; 15375];
     recognize_within(
         image,
         &mut held,
@@ -121,8 +146,8 @@ fn recognize_short(image: &[u8], keys: &mut [u64]) -> Recognized
 }
 
 // An image of up to 180,239 bytes.
-fn recognize_long(image: &[u8], keys: &mut [u64]) -> Recognized
-    requires { ⌜ (length (now image) ≤ 180239) × (mostSlots ≤ length (now keys)) ⌝ }
+fn recognize_large(image: &[u8], keys: &mut [u64]) -> Recognized
+    requires { ⌜ (length (now image) ≤ 180239) × RoomFor (length (now image)) (length (now keys)) ⌝ }
     ensures { λ r. ⌜ r ≡ recognized (now (image .entry)) ⌝ }
     ensures { λ _. ⌜ (isImage (now (image .entry)) ≡ true → now (keys .exit) ≡ overwrite (now (keys .entry)) 0 (readImage (now (image .entry)) .keys)) ⌝ }
 {
@@ -142,18 +167,22 @@ fn recognize_long(image: &[u8], keys: &mut [u64]) -> Recognized
     )
 }
 
-// Recognize an image; where it is one, its keys, rising, are then at the start of `keys`; else what `keys` holds is left open. Internal
-// to this library's crates: their lists have room for the most keys that an image has.
+// Recognize an image, with no more room than images of about its size need; where it is one, its keys, rising, are then at the start of
+// `keys`; else what `keys` holds is left open. Internal to this library's crates: their lists have room for the keys of an image of this
+// length.
 pub fn recognize(image: &[u8], keys: &mut [u64]) -> Recognized
-    requires { ⌜ mostSlots ≤ length (now keys) ⌝ }
+    requires { ⌜ RoomFor (length (now image)) (length (now keys)) ⌝ }
     ensures { λ r. ⌜ r ≡ recognized (now (image .entry)) ⌝ }
     ensures { λ _. ⌜ (isImage (now (image .entry)) ≡ true → now (keys .exit) ≡ overwrite (now (keys .entry)) 0 (readImage (now (image .entry)) .keys)) ⌝ }
 {
     if MOST_BYTES < image.len() {
         return Recognized::Other;
     }
-    if image.len() <= 4096 {
-        return recognize_short(image, keys);
+    if image.len() <= 1935 {
+        return recognize_small(image, keys);
     }
-    recognize_long(image, keys)
+    if image.len() <= 15375 {
+        return recognize_medium(image, keys);
+    }
+    recognize_large(image, keys)
 }

@@ -12,7 +12,8 @@ use Rattle.table.specs.Contents.{Valid}
 use Rattle.table.specs.Layout.{mostSlots}
 use Rattle.image.specs.Image.{readImage, isImage}
 use Rattle.image.proofs.Bytes.{IsByte}
-use Rattle.image.proofs.Judging.{is-image-valid}
+use Rattle.image.proofs.Judging.{is-image-valid, is-image-exactly}
+use Rattle.image.proofs.Lengths.{image-length}
 use Rattle.recognize.proofs.Answers.{told-image, told-other, told-number, image-keys, image-header}
 use Rattle.images.proofs.Reading.{refused-bytes, refused-many, accepted}
 use borrow.Author.Needs.{needs}
@@ -59,12 +60,13 @@ taken p =
 inside : (p : tie.After-found) → size p ≤ length (listed p)
 inside p =
     let q = read-at p in
-    let few = valid p .keys-fit in
+    let bytes-long = ap length (is-image-exactly (bytes q) (one p)) in
+    let room = begun q .pre .3 (length (readImage (bytes q) .keys)) (valid p .keys-fit) (omega (arith, bytes-long, image-length (readImage (bytes q)) (valid p))) in
     omega (
       arith,
       number p,
-      begun q .pre .3,
-      as-long (listed p) (begun q .args .keys .now) (readImage (bytes q) .keys) (size p) (q .recognize .ensures .1 (one p)) (sym (number p)) (omega (arith, number p, begun q .pre .3)),
+      room,
+      as-long (listed p) (begun q .args .keys .now) (readImage (bytes q) .keys) (size p) (q .recognize .ensures .1 (one p)) (sym (number p)) (omega (arith, number p, room)),
     )
 
 recognize-requires : tie.Need-recognize-requires

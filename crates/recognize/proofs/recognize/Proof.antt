@@ -8,8 +8,9 @@ use Rattle.recognize.proofs.recognize.Statement.{statement}
 use Rattle.recognize.proofs.recognize.Tie as tie
 use Rattle.recognize.proofs.recognize.Reads as reads
 use Rattle.recognize.proofs.recognize.Lts as lts
-use Rattle.recognize.proofs.recognize_long.Reads as recognize-long-reads
-use Rattle.recognize.proofs.recognize_short.Reads as recognize-short-reads
+use Rattle.recognize.proofs.recognize_large.Reads as recognize-large-reads
+use Rattle.recognize.proofs.recognize_medium.Reads as recognize-medium-reads
+use Rattle.recognize.proofs.recognize_small.Reads as recognize-small-reads
 
 returns : tie.Need-returns
 returns c =
@@ -17,8 +18,8 @@ returns c =
     let bytes = args .image .now in
     stop bytes (too-long bytes (all-of-entries IsByte bytes 0 (λ i. omega (arith, c .before .before .shared-slice-known .given i))) (c .if1 .taken)) (args .keys .now) (args .keys .now)
 
-recognize-short-requires : tie.Need-recognize-short-requires
-recognize-short-requires c κs = search needs
+recognize-small-requires : tie.Need-recognize-small-requires
+recognize-small-requires c κs = search needs
 
 same-length : tie.Need-same-length
 same-length c = search needs
@@ -26,8 +27,8 @@ same-length c = search needs
 returns-2 : tie.Need-returns-2
 returns-2 c = search needs
 
-recognize-long-requires : tie.Need-recognize-long-requires
-recognize-long-requires c κs = search needs
+recognize-medium-requires : tie.Need-recognize-medium-requires
+recognize-medium-requires c κs = search needs
 
 same-length-2 : tie.Need-same-length-2
 same-length-2 c = search needs
@@ -35,14 +36,26 @@ same-length-2 c = search needs
 returns-3 : tie.Need-returns-3
 returns-3 c = search needs
 
+recognize-large-requires : tie.Need-recognize-large-requires
+recognize-large-requires c κs = search needs
+
+same-length-3 : tie.Need-same-length-3
+same-length-3 c = search needs
+
+returns-4 : tie.Need-returns-4
+returns-4 c = search needs
+
 pub recognize-spec : {M : Type 1} → statement M
 recognize-spec =
     tie.close
     (tie.spec
     returns
-    recognize-short-requires
+    recognize-small-requires
     same-length
     returns-2
-    recognize-long-requires
+    recognize-medium-requires
     same-length-2
-    returns-3)
+    returns-3
+    recognize-large-requires
+    same-length-3
+    returns-4)

@@ -20,9 +20,9 @@ use Rattle.imaging.specs.Written.{writtenTo}
 use Rattle.image.specs.Layout.{headerBytes}
 use Rattle.image.specs.Image.{imageOf, readImage, isImage}
 use Rattle.image.proofs.Bytes.{IsByte}
-use Rattle.reading.specs.Reading.{readable, keysOf}
-use Rattle.reading.proofs.Readable.{unreadable}
-use Rattle.recognize.proofs.Recognizing.{orderShown, shown-image, stop, wrong-order, not-rising, wrong-length, differs, can-be-written, is-one, accepted, told-readable, told-broken, told-number, readable-header, readable-few, sorted-shown, shown-size, written-over}
+use Rattle.reading.specs.Reading.{readable, keysOf, RoomFor}
+use Rattle.reading.proofs.Readable.{unreadable, readable-header, readable-few, readable-fits}
+use Rattle.recognize.proofs.Recognizing.{orderShown, shown-image, stop, wrong-order, not-rising, wrong-length, differs, can-be-written, is-one, accepted, told-readable, told-broken, told-number, sorted-shown, shown-size, written-over}
 use borrow.Author.Needs.{needs}
 use Rattle.recognize.proofs.recognize_in.Statement.{statement}
 use Rattle.recognize.proofs.recognize_in.Tie as tie
@@ -56,9 +56,6 @@ size p = p .found .given .0 .0
 abbrev collected-keys : tie.After-found → List ℕ
 collected-keys p = read-at p .collect .last .1 .0
 
-room-is : (p : tie.After-found) → length (begun (read-at p) .args .held .now) ≡ mostSlots
-room-is p = begun (read-at p) .pre .0
-
 was-readable : (p : tie.After-found) → readable (length (begun (read-at p) .args .held .now)) (bytes (read-at p)) ≡ true
 was-readable p =
     let q = read-at p in
@@ -69,16 +66,24 @@ number p =
     let q = read-at p in
     told-number (length (begun q .args .held .now)) (bytes q) (size p) (sym (q .collect .ensures .0) ∙ p .found .given .1)
 
+in-held : (p : tie.After-found) → size p ≤ length (begun (read-at p) .args .held .now)
+in-held p = omega (arith, number p, readable-few (length (begun (read-at p) .args .held .now)) (bytes (read-at p)) (was-readable p))
+
 few : (p : tie.After-found) → size p ≤ mostSlots
-few p = omega (arith, number p, room-is p, readable-few (length (begun (read-at p) .args .held .now)) (bytes (read-at p)) (was-readable p))
+few p = omega (arith, in-held p, begun (read-at p) .pre .0 .0)
+
+fits : (p : tie.After-found) (room : ℕ) → RoomFor (length (bytes (read-at p))) room → size p ≤ room
+fits p room enough =
+    let q = read-at p in
+    omega (arith, number p, readable-fits (length (begun q .args .held .now)) (bytes q) (was-readable p) room (begun q .pre .0 .0) enough)
 
 has-header : (p : tie.After-found) → headerBytes ≤ length (bytes (read-at p))
 has-header p = readable-header (length (begun (read-at p) .args .held .now)) (bytes (read-at p)) (was-readable p)
 
-collected-long : (p : tie.After-found) → length (collected-keys p) ≡ mostSlots
+collected-long : (p : tie.After-found) → length (collected-keys p) ≡ length (begun (read-at p) .args .held .now)
 collected-long p =
     let q = read-at p in
-    as-long (collected-keys p) (begun q .args .held .now) (keysOf (bytes q)) (size p) (q .collect .ensures .1 (was-readable p)) (sym (number p)) (omega (arith, few p, room-is p)) ∙ room-is p
+    as-long (collected-keys p) (begun q .args .held .now) (keysOf (bytes q)) (size p) (q .collect .ensures .1 (was-readable p)) (sym (number p)) (in-held p)
 
 -- ---- where the order is one
 abbrev found-at : tie.Else1 → tie.After-found
@@ -121,8 +126,8 @@ taken q = starts-with (sorted q) (lent-keys (at q)) (shown (at q)) (size (at q))
 inside : (q : tie.After-sort-keys) → size (at q) ≤ length (sorted q)
 inside q =
     let p = at q in
-    let room = begun (read-at p) .pre .4 in
-    omega (arith, few p, as-long (sorted q) (lent-keys p) (shown p) (size p) (sorted-is q) (shown-long p) (omega (arith, few p, room)), room)
+    let room = fits p (length (lent-keys p)) (begun (read-at p) .pre .1 .4) in
+    omega (arith, room, as-long (sorted q) (lent-keys p) (shown p) (size p) (sorted-is q) (shown-long p) room)
 
 -- ---- where they rise
 abbrev sorted-at : tie.Else2 → tie.After-sort-keys
@@ -166,7 +171,7 @@ copied-is p =
     let start = begun (read-at (there w)) in
     w .write .ensures .1
     ∙ ap (writtenTo (start .args .copy .now)) (drawn w)
-    ∙ written-over (start .args .copy .now) (imageOf (readImage b)) (sym (written-size w) ∙ p .if3 .left ∙ sym (start .pre .5))
+    ∙ written-over (start .args .copy .now) (imageOf (readImage b)) (sym (written-size w) ∙ p .if3 .left ∙ sym (start .pre .0 .1))
 
 collect-requires : tie.Need-collect-requires
 collect-requires c κs = search needs
@@ -186,7 +191,7 @@ returns c =
     let start = begun q in
     let lacking = told-broken (length (start .args .held .now)) (bytes q) (sym (q .collect .ensures .0) ∙ c .enum-told .given .1) in
     stop (bytes q)
-    (unreadable (bytes q) (byte-sized q) (subst (λ (room : ℕ). readable room (bytes q) ≡ false) (start .pre .0) lacking))
+    (unreadable (length (start .args .held .now)) (bytes q) (start .pre .1 .0) (byte-sized q) lacking)
     (start .args .keys .now) (start .args .keys .now)
 
 get-requires : tie.Need-get-requires
@@ -211,7 +216,7 @@ sort-keys-requires : tie.Need-sort-keys-requires
 sort-keys-requires c κs =
     let p = found-at (c .before .before .before .before .before) in
     let pre = begun (read-at p) .pre in
-    (omega (arith, few p, collected-long p), (omega (arith, few p, pre .1), (omega (arith, few p, pre .2), (omega (arith, few p, pre .3), omega (arith, few p, pre .4)))))
+    (omega (arith, in-held p, collected-long p), (fits p _ (pre .1 .1), (fits p _ (pre .1 .2), (fits p _ (pre .1 .3), fits p _ (pre .1 .4)))))
 
 slice-reshare-prefix-is-rising : tie.Need-slice-reshare-prefix-is-rising
 slice-reshare-prefix-is-rising c = inside (c .before .before .before .before .before .before .before .before)

@@ -14,12 +14,12 @@ slice-relend-prefix-recognize-in c = search needs
 slice-aggregate-recognize-in : tie.Need-slice-aggregate-recognize-in
 slice-aggregate-recognize-in c =
     let start = c .before .before .before .before .before .before .before .before .before .before .before .before in
-    sym (length-take-le _ _ (start .pre .5))
+    sym (length-take-le _ _ (start .pre .0 .1))
 
 recognize-in-requires : tie.Need-recognize-in-requires
 recognize-in-requires c κs =
     let pre = c .before .before .before .before .before .before .before .before .before .before .before .before .before .pre in
-    (pre .0, pre .1, pre .2, pre .3, pre .4, length-take-le _ _ (pre .5))
+    ((pre .0 .0, length-take-le _ _ (pre .0 .1)), pre .1)
 
 same-length : tie.Need-same-length
 same-length c = search needs
