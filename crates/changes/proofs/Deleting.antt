@@ -13,7 +13,7 @@ use Rattle.table.specs.Contents.{Contents}
 use Rattle.table.specs.Layout.{mostSlots, tableWords}
 use Rattle.table.specs.Table.{fresh, contentsOf}
 use Rattle.table.specs.Sound.{soundWith}
-use Rattle.judge.specs.Judge.{slotsFor}
+use Rattle.limits.specs.Lengths.{slotsFor}
 use Rattle.edit.specs.Edit.{without}
 use Rattle.replies.specs.Replies.{deletedOf}
 use Rattle.replies.specs.declared.Refusal.the-variants.{WrongLength, ZeroKey, NotSound, KeyAbsent}

@@ -5,7 +5,7 @@ ghost use lib.ListN.{length};
 ghost use Rattle.table.specs.Layout.{mostSlots, tableWords};
 ghost use Rattle.replies.specs.Replies.{insertedOf, deletedOf};
 ghost use Rattle.calls.specs.Calls.{insertReply, insertAfter, deleteReply, deleteAfter};
-use judge::Verdict;
+use examine::Verdict;
 use replies::Deleted;
 use replies::Inserted;
 use replies::Refusal;

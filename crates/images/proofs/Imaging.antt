@@ -14,7 +14,7 @@ use Rattle.table.specs.Contents.{Contents}
 use Rattle.table.specs.Layout.{mostSlots, tableWords, orderWord}
 use Rattle.table.specs.Table.{contentsOf}
 use Rattle.table.specs.Sound.{soundWith}
-use Rattle.judge.specs.Judge.{slotsFor}
+use Rattle.limits.specs.Lengths.{slotsFor}
 use Rattle.image.specs.Image.{imageOf}
 use Rattle.imaging.specs.Written.{writtenTo}
 use Rattle.replies.specs.Replies.{writtenOf}

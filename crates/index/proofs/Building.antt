@@ -12,8 +12,8 @@ use Rattle.lists.proofs.Tests.{lies-says}
 use Rattle.table.specs.Layout.{mostSlots, leastOrder, greatestOrder}
 use Rattle.table.specs.Contents.{Contents, tableOrder, newOrder, risingKeys}
 use Rattle.table.specs.Table.{fresh}
-use Rattle.judge.specs.Judge.{slotsFor}
-use Rattle.judge.proofs.Lengths.{SlotsOf, slots-for-some}
+use Rattle.limits.specs.Lengths.{slotsFor}
+use Rattle.limits.proofs.Lengths.{SlotsOf, slots-for-some}
 use Rattle.assemble.specs.Assemble.{Keys}
 use Rattle.replies.specs.Replies.{builtOf}
 use Rattle.replies.specs.declared.Refusal.the-variants.{WrongLength, WrongOrder, NotRising, TooManyKeys}

@@ -13,7 +13,8 @@ use Rattle.priority.specs.Priority.{priorityOf}
 use Rattle.treap.specs.Blocks.{blocksMet}
 use Rattle.table.specs.Contents.{Contents}
 use Rattle.table.specs.Table.{contentsOf}
-use Rattle.judge.specs.Judge.{slotsFor, isSound}
+use Rattle.limits.specs.Lengths.{slotsFor}
+use Rattle.judge.specs.Judge.{isSound}
 use Rattle.lookup.specs.Lookup.{standingOf, lookedUp}
 use Rattle.lookup.specs.declared.Looked.{Looked}
 use Rattle.lookup.specs.declared.Looked.the-variants as looked

@@ -13,7 +13,7 @@ use Rattle.table.specs.Contents.{Contents}
 use Rattle.table.specs.Layout.{mostSlots, tableWords}
 use Rattle.table.specs.Table.{contentsOf}
 use Rattle.table.specs.Sound.{soundWith}
-use Rattle.judge.specs.Judge.{slotsFor}
+use Rattle.limits.specs.Lengths.{slotsFor}
 use Rattle.ranges.specs.Ranges.{within}
 use Rattle.replies.specs.Replies.{rangedOf}
 use Rattle.replies.specs.declared.Refusal.the-variants.{WrongLength, LowAboveHigh, NotSound, OutputTooShort}

@@ -8,8 +8,8 @@ use lib.Dec.{eqb}
 use lib.ListN.{length, set, replicate}
 use borrow.Author.Tests.{ne-eqb}
 use Rattle.table.specs.Contents.{newOrder}
-use Rattle.judge.specs.Judge.{slotsFor}
-use Rattle.judge.proofs.Lengths.{SlotsOf, slots-for-some}
+use Rattle.limits.specs.Lengths.{slotsFor}
+use Rattle.limits.proofs.Lengths.{SlotsOf, slots-for-some}
 use Rattle.replies.specs.Replies.{setUpOf}
 use Rattle.replies.specs.declared.Refusal.the-variants.{WrongLength, WrongOrder}
 use Rattle.replies.specs.declared.SetUp.{SetUp}

@@ -3,10 +3,9 @@ ghost use mathlib.Core.Path.{_≡_};
 ghost use Prim.Native.Nat.{_<_, _≤_};
 ghost use lib.ListN.{length};
 ghost use Rattle.table.specs.Layout.{mostSlots, tableWords};
-ghost use Rattle.table.specs.Contents.{newOrder};
 ghost use Rattle.replies.specs.Replies.{setUpOf, builtOf, insertedOf, deletedOf, lookedUpOf, rangedOf};
 ghost use Rattle.calls.specs.Calls.{setUpReply, setUpAfter, buildReply, buildAfter, insertReply, insertAfter, deleteReply, deleteAfter, lookupReply, rangeReply, rangeOutput};
-use judge::Verdict;
+use examine::Verdict;
 use lookup::Looked;
 use replies::Built;
 use replies::Deleted;
@@ -15,26 +14,17 @@ use replies::LookedUp;
 use replies::Ranged;
 use replies::Refusal;
 use replies::SetUp;
-use table::GREATEST_ORDER;
-use table::LEAST_ORDER;
 use table::ORDER_WORD;
-
-// Whether a table of this order may be set up.
-fn is_new_order(order: u64) -> bool
-    ensures { λ r. ⌜ r ≡ newOrder order ⌝ }
-{
-    ranges::is_within(order, LEAST_ORDER, GREATEST_ORDER)
-}
 
 // Make of any words of a right length the blank table of an order. Refusals: 1, 2.
 pub fn set_up(table: &mut [u64], order: u64) -> SetUp
     ensures { λ r. ⌜ setUpOf r ≡ setUpReply (now (table .entry)) order ⌝ }
     ensures { λ _. ⌜ now (table .exit) ≡ setUpAfter (now (table .entry)) order ⌝ }
 {
-    if judge::slots_for(table.len()) == 0 {
+    if limits::slots_for(table.len()) == 0 {
         return SetUp::Refused(Refusal::WrongLength);
     }
-    if !is_new_order(order) {
+    if !limits::is_new_order(order) {
         return SetUp::Refused(Refusal::WrongOrder);
     }
     slots::clear(table);
@@ -47,11 +37,11 @@ pub fn build(table: &mut [u64], order: u64, list: &[u64]) -> Built
     ensures { λ r. ⌜ builtOf r ≡ buildReply (now (table .entry)) order (now (list .entry)) ⌝ }
     ensures { λ _. ⌜ now (table .exit) ≡ buildAfter (now (table .entry)) order (now (list .entry)) ⌝ }
 {
-    let many = judge::slots_for(table.len());
+    let many = limits::slots_for(table.len());
     if many == 0 {
         return Built::Refused(Refusal::WrongLength);
     }
-    if !is_new_order(order) {
+    if !limits::is_new_order(order) {
         return Built::Refused(Refusal::WrongOrder);
     }
     if !decode::is_rising(list) {
@@ -69,7 +59,7 @@ pub fn insert(table: &mut [u64], key: u64) -> Inserted
     ensures { λ r. ⌜ insertedOf r ≡ insertReply (now (table .entry)) key ⌝ }
     ensures { λ _. ⌜ now (table .exit) ≡ insertAfter (now (table .entry)) key ⌝ }
 {
-    let many = judge::slots_for(table.len());
+    let many = limits::slots_for(table.len());
     if many == 0 {
         return Inserted::Refused(Refusal::WrongLength);
     }
@@ -84,7 +74,7 @@ pub fn delete(table: &mut [u64], key: u64) -> Deleted
     ensures { λ r. ⌜ deletedOf r ≡ deleteReply (now (table .entry)) key ⌝ }
     ensures { λ _. ⌜ now (table .exit) ≡ deleteAfter (now (table .entry)) key ⌝ }
 {
-    let many = judge::slots_for(table.len());
+    let many = limits::slots_for(table.len());
     if many == 0 {
         return Deleted::Refused(Refusal::WrongLength);
     }
@@ -98,7 +88,7 @@ pub fn delete(table: &mut [u64], key: u64) -> Deleted
 pub fn look_up(table: &[u64], key: u64) -> LookedUp
     ensures { λ r. ⌜ lookedUpOf r ≡ lookupReply (now (table .entry)) key ⌝ }
 {
-    let many = judge::slots_for(table.len());
+    let many = limits::slots_for(table.len());
     if many == 0 {
         return LookedUp::Refused(Refusal::WrongLength);
     }
@@ -165,7 +155,7 @@ pub fn range(table: &[u64], low: u64, high: u64, output: &mut [u64]) -> Ranged
     ensures { λ r. ⌜ rangedOf r ≡ rangeReply (now (table .entry)) low high (now (output .entry)) ⌝ }
     ensures { λ _. ⌜ now (output .exit) ≡ rangeOutput (now (table .entry)) low high (now (output .entry)) ⌝ }
 {
-    let many = judge::slots_for(table.len());
+    let many = limits::slots_for(table.len());
     if many == 0 {
         return Ranged::Refused(Refusal::WrongLength);
     }

@@ -12,7 +12,7 @@ use Rattle.lists.proofs.Start.{starts-with, as-long}
 use Rattle.table.specs.Contents.{Contents, Valid}
 use Rattle.table.specs.Table.{fresh, contentsOf}
 use Rattle.table.proofs.Soundness.{WordSized, sound-valid}
-use Rattle.judge.proofs.Verdicts.{told-false}
+use Rattle.examine.proofs.Verdicts.{told-false}
 use Rattle.edit.specs.Edit.{without}
 use Rattle.calls.proofs.Examined.{Examined, examined}
 use Rattle.changes.proofs.Sets.{without-valid, valid-keys}

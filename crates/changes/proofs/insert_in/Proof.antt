@@ -12,7 +12,7 @@ use Rattle.table.specs.Contents.{Contents, Valid}
 use Rattle.table.specs.Table.{fresh, contentsOf}
 use Rattle.table.proofs.Words.{fresh-length}
 use Rattle.table.proofs.Soundness.{WordSized, sound-valid}
-use Rattle.judge.proofs.Verdicts.{told-false}
+use Rattle.examine.proofs.Verdicts.{told-false}
 use Rattle.edit.specs.Edit.{joined}
 use Rattle.calls.proofs.Examined.{Examined, examined}
 use Rattle.changes.proofs.Sets.{joined-length, joined-member, joined-valid, valid-keys}

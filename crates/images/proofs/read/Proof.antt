@@ -2,7 +2,7 @@
 use mathlib.Core.Path.{sym, _∙_}
 use native.Mathlib.Omega.{arith}
 use lib.ListN.{length}
-use Rattle.judge.proofs.Lengths.{slots-for-some}
+use Rattle.limits.proofs.Lengths.{slots-for-some}
 use Rattle.images.proofs.Reading.{refused-length}
 use borrow.Author.Needs.{needs}
 use Rattle.images.proofs.read.Statement.{statement}
@@ -10,7 +10,7 @@ use Rattle.images.proofs.read.Tie as tie
 use Rattle.images.proofs.read.Reads as reads
 use Rattle.images.proofs.read.Lts as lts
 use Rattle.images.proofs.read_lent.Reads as read-lent-reads
-use Rattle.judge.proofs.slots_for.Reads as slots-for-reads
+use Rattle.limits.proofs.slots_for.Reads as slots-for-reads
 
 slots-for-requires : tie.Need-slots-for-requires
 slots-for-requires c κs = search needs

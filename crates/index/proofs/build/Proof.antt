@@ -5,17 +5,17 @@ use native.Mathlib.Omega.{arith}
 use lib.ListN.{length}
 use borrow.Author.Tests.{not-true, not-false}
 use Rattle.table.specs.Contents.{newOrder, risingKeys}
-use Rattle.judge.specs.Judge.{slotsFor}
-use Rattle.judge.proofs.Lengths.{SlotsOf, slots-for-some}
+use Rattle.limits.specs.Lengths.{slotsFor}
+use Rattle.limits.proofs.Lengths.{SlotsOf, slots-for-some}
 use Rattle.index.proofs.Building.{refused-length, refused-order, refused-list, refused-many, accepted, can-be-written}
 use borrow.Author.Needs.{needs}
 use Rattle.index.proofs.build.Statement.{statement}
 use Rattle.index.proofs.build.Tie as tie
 use Rattle.index.proofs.build.Reads as reads
 use Rattle.index.proofs.build.Lts as lts
-use Rattle.index.proofs.is_new_order.Reads as is-new-order-reads
+use Rattle.limits.proofs.is_new_order.Reads as is-new-order-reads
 use Rattle.decode.proofs.is_rising.Reads as is-rising-reads
-use Rattle.judge.proofs.slots_for.Reads as slots-for-reads
+use Rattle.limits.proofs.slots_for.Reads as slots-for-reads
 use Rattle.sized.proofs.write.Reads as write-reads
 
 -- past the tests the order is right and the list rises

@@ -2,7 +2,7 @@
 use mathlib.Core.Path.{sym, _∙_}
 use native.Mathlib.Omega.{arith}
 use lib.ListN.{length}
-use Rattle.judge.proofs.Lengths.{slots-for-some}
+use Rattle.limits.proofs.Lengths.{slots-for-some}
 use Rattle.changes.proofs.Deleting.{refused-length, refused-zero}
 use borrow.Author.Needs.{needs}
 use Rattle.index.proofs.delete.Statement.{statement}
@@ -10,7 +10,7 @@ use Rattle.index.proofs.delete.Tie as tie
 use Rattle.index.proofs.delete.Reads as reads
 use Rattle.index.proofs.delete.Lts as lts
 use Rattle.changes.proofs.delete.Reads as delete-reads
-use Rattle.judge.proofs.slots_for.Reads as slots-for-reads
+use Rattle.limits.proofs.slots_for.Reads as slots-for-reads
 
 slots-for-requires : tie.Need-slots-for-requires
 slots-for-requires c κs = search needs

@@ -5,8 +5,8 @@ use native.Mathlib.Omega.{arith}
 use lib.ListN.{length}
 use borrow.Author.Tests.{not-true, not-false}
 use Rattle.judge.specs.Judge.{isSound}
-use Rattle.judge.proofs.Lengths.{slots-for-some}
-use Rattle.judge.proofs.Verdicts.{decided-with}
+use Rattle.limits.proofs.Lengths.{slots-for-some}
+use Rattle.judge.proofs.Decides.{decided-with}
 use Rattle.lookup.specs.declared.Looked.the-variants.{Held, Absent}
 use Rattle.index.proofs.LookingUp.{refused-length, refused-zero, refused-table, accepted}
 use borrow.Author.Needs.{needs}
@@ -15,7 +15,7 @@ use Rattle.index.proofs.look_up.Tie as tie
 use Rattle.index.proofs.look_up.Reads as reads
 use Rattle.index.proofs.look_up.Lts as lts
 use Rattle.judge.proofs.judge.Reads as judge-reads
-use Rattle.judge.proofs.slots_for.Reads as slots-for-reads
+use Rattle.limits.proofs.slots_for.Reads as slots-for-reads
 use Rattle.lookup.proofs.look_up.Reads as look-up-reads
 
 -- past the tests the table is sound
@@ -57,7 +57,7 @@ look-up-requires c κs =
       omega (arith, here, right .some),
       omega (arith, here, right .within),
       omega (arith, here, right .long),
-      sym (decided-with (p .before .slots-for .result) words (sym here) (p .if1 .left)) ∙ is-sound c,
+      sym (decided-with words (p .before .slots-for .result) (sym here) (p .if1 .left)) ∙ is-sound c,
       omega arith,
     )
 

@@ -2,7 +2,7 @@
 use mathlib.Core.Path.{sym, _∙_}
 use native.Mathlib.Omega.{arith}
 use lib.ListN.{length}
-use Rattle.judge.proofs.Lengths.{slots-for-some}
+use Rattle.limits.proofs.Lengths.{slots-for-some}
 use Rattle.index.proofs.Ranging.{refused-length, refused-order}
 use borrow.Author.Needs.{needs}
 use Rattle.index.proofs.range.Statement.{statement}
@@ -11,7 +11,7 @@ use Rattle.index.proofs.range.Reads as reads
 use Rattle.index.proofs.range.Lts as lts
 use Rattle.index.proofs.range_few.Reads as range-few-reads
 use Rattle.index.proofs.range_many.Reads as range-many-reads
-use Rattle.judge.proofs.slots_for.Reads as slots-for-reads
+use Rattle.limits.proofs.slots_for.Reads as slots-for-reads
 
 slots-for-requires : tie.Need-slots-for-requires
 slots-for-requires c κs = search needs

@@ -4,7 +4,7 @@ use mathlib.Core.Path.{_≡_, sym, ap, _∙_}
 use Prim.Native.Nat.{ℕ, _≤_}
 use native.Mathlib.Omega.{arith}
 use lib.ListN.{length, take}
-use Rattle.judge.proofs.Verdicts.{told-false}
+use Rattle.examine.proofs.Verdicts.{told-false}
 use Rattle.ranges.specs.Ranges.{within}
 use Rattle.calls.proofs.Examined.{Examined, examined}
 use Rattle.index.proofs.Ranging.{refused-table, refused-short, accepted}

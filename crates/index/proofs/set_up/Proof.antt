@@ -6,16 +6,16 @@ use native.Mathlib.Omega.{arith}
 use lib.ListN.{length, length-replicate}
 use borrow.Author.Tests.{not-true, not-false}
 use Rattle.table.specs.Contents.{newOrder}
-use Rattle.judge.specs.Judge.{slotsFor}
-use Rattle.judge.proofs.Lengths.{SlotsOf, slots-for-some}
+use Rattle.limits.specs.Lengths.{slotsFor}
+use Rattle.limits.proofs.Lengths.{SlotsOf, slots-for-some}
 use Rattle.index.proofs.SettingUp.{refused-length, refused-order, accepted}
 use borrow.Author.Needs.{needs}
 use Rattle.index.proofs.set_up.Statement.{statement}
 use Rattle.index.proofs.set_up.Tie as tie
 use Rattle.index.proofs.set_up.Reads as reads
 use Rattle.index.proofs.set_up.Lts as lts
-use Rattle.index.proofs.is_new_order.Reads as is-new-order-reads
-use Rattle.judge.proofs.slots_for.Reads as slots-for-reads
+use Rattle.limits.proofs.is_new_order.Reads as is-new-order-reads
+use Rattle.limits.proofs.slots_for.Reads as slots-for-reads
 use Rattle.slots.proofs.clear.Reads as clear-reads
 
 -- past the first test the words have a right length, past the second the order is right

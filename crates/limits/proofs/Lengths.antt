@@ -12,7 +12,7 @@ use Rattle.lists.proofs.Keep.{all-map}
 use Rattle.lists.proofs.Membership.{first-passes, first-none, first-found}
 use Rattle.lists.proofs.UpFrom.{upFrom-member, upFrom-within}
 use Rattle.table.specs.Layout.{mostSlots, tableWords}
-use Rattle.judge.specs.Judge.{slotsFor}
+use Rattle.limits.specs.Lengths.{slotsFor}
 
 -- whatever the most slots are
 slots-among : (most words : ℕ) (many : ℕ) → 1 ≤ many → many ≤ most → words ≡ tableWords many → first 0 (λ m. eqb words (tableWords m)) (upFrom 1 most) ≡ many

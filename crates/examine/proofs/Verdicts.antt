@@ -1,12 +1,10 @@
 -- What the tests of examining say of the verdict. Assumes nothing.
 use mathlib.Core.Bool.{Bool, true, false, cond}
-use mathlib.Core.Logic.{_≢_}
 use mathlib.Core.List.{List}
 use mathlib.Core.Path.{_≡_, refl, sym, ap, ap₂, _∙_}
 use Prim.Native.Nat.{ℕ, _≤_}
 use native.Mathlib.Omega.{arith}
 use lib.ListN.{length, getD, take}
-use borrow.Author.Tests.{ne-eqb}
 use Rattle.lists.specs.Lists.{lies, risesB, same, overwrite}
 use Rattle.lists.proofs.Tests.{lies-says}
 use Rattle.lists.proofs.Rising.{rises-says}
@@ -17,9 +15,9 @@ use Rattle.table.specs.Table.{fresh, contentsOf}
 use Rattle.table.specs.Sound.{soundWith}
 use Rattle.table.proofs.Soundness.{shown-fit, shown-nonzero}
 use Rattle.assemble.specs.Assemble.{Keys}
-use Rattle.judge.specs.declared.Verdict.{Verdict}
-use Rattle.judge.specs.declared.Verdict.the-variants.{Sound, Unsound}
-use Rattle.judge.specs.Judge.{slotsFor, verdictOf, isSound}
+use Rattle.examine.specs.declared.Verdict.{Verdict}
+use Rattle.examine.specs.declared.Verdict.the-variants.{Sound, Unsound}
+use Rattle.examine.specs.Examine.{verdictOf}
 
 abbrev says : Verdict → Bool
 says (Sound n) = true
@@ -58,6 +56,11 @@ module _ (many : ℕ) (words : List ℕ) where
   unfolding verdictOf
   sound n e h = rw (e, h)
 
+  -- the verdict, from what comparing the words tells
+  pub verdict-is : (b : Bool) (n : ℕ) → soundWith many words ≡ b → n ≡ length (contentsOf many words .keys) → cond b (Sound n) Unsound ≡ verdictOf many words
+  unfolding verdictOf
+  verdict-is b n e h = rw (e, h)
+
   verdict-says : soundWith many words ≡ says (verdictOf many words)
   unfolding verdictOf
   verdict-says = sym (says-cond (soundWith many words) (length (contentsOf many words .keys)))
@@ -71,11 +74,6 @@ module _ (many : ℕ) (words : List ℕ) where
 
   pub told-size : (n : ℕ) → verdictOf many words ≡ Sound n → n ≡ length (contentsOf many words .keys)
   told-size n v = sym (ap sizeIn (sound (length (contentsOf many words .keys)) (told-true n v) refl ∙ v))
-
-  -- the decision, from the verdict
-  pub decided-with : slotsFor (length words) ≡ many → many ≢ 0 → isSound words ≡ soundWith many words
-  unfolding isSound
-  decided-with e d = rw (e, ne-eqb many 0 d) refl
 
   -- ---- the keys that are read, as the comparison takes them
   pub keys-read : (lent keys : List ℕ) (n : ℕ) → keys ≡ overwrite lent 0 (contentsOf many words .keys) → n ≡ length (contentsOf many words .keys) → take n keys ≡ contentsOf many words .keys
@@ -98,8 +96,3 @@ module _ (many : ℕ) (words : List ℕ) where
   unfolding contentsOf
   compared order keys slots e f g =
       ap₂ (λ (m : ℕ) (c : Contents). same words (fresh m c)) g (λ i. record { order = e i; keys = f i })
-
--- words that no table has
-pub no-slots : (words : List ℕ) → slotsFor (length words) ≡ 0 → false ≡ isSound words
-unfolding isSound
-no-slots words e = rw e refl

@@ -1,4 +1,4 @@
--- `judge::read_keys` meets its contract. Assumes nothing.
+-- `examine::read_keys` meets its contract. Assumes nothing.
 use mathlib.Core.Path.{_≡_, refl, sym, ap, _∙_}
 use native.Mathlib.Omega.{arith}
 use lib.Dec.{ltb}
@@ -8,10 +8,10 @@ use Rattle.lists.proofs.Start.{starts-with, as-long}
 use Rattle.table.specs.Table.{heldKeys, contentsOf}
 use Rattle.table.proofs.Soundness.{held-fit, shown-held, shown-length}
 use borrow.Author.Needs.{needs}
-use Rattle.judge.proofs.read_keys.Statement.{statement}
-use Rattle.judge.proofs.read_keys.Tie as tie
-use Rattle.judge.proofs.read_keys.Reads as reads
-use Rattle.judge.proofs.read_keys.Lts as lts
+use Rattle.examine.proofs.read_keys.Statement.{statement}
+use Rattle.examine.proofs.read_keys.Tie as tie
+use Rattle.examine.proofs.read_keys.Reads as reads
+use Rattle.examine.proofs.read_keys.Lts as lts
 use Rattle.decode.proofs.collect.Reads as collect-reads
 use Rattle.decode.proofs.sort_keys.Reads as sort-keys-reads
 

@@ -1,13 +1,13 @@
--- `judge::slots_for` meets its contract. Assumes nothing.
+-- `limits::slots_for` meets its contract. Assumes nothing.
 use mathlib.Core.Path.{sym}
 use Prim.Native.Nat.{_-_, _/_}
 use native.Mathlib.Omega.{arith}
-use Rattle.judge.proofs.Lengths.{slots-for-is, slots-for-none}
+use Rattle.limits.proofs.Lengths.{slots-for-is, slots-for-none}
 use borrow.Author.Needs.{needs}
-use Rattle.judge.proofs.slots_for.Statement.{statement}
-use Rattle.judge.proofs.slots_for.Tie as tie
-use Rattle.judge.proofs.slots_for.Reads as reads
-use Rattle.judge.proofs.slots_for.Lts as lts
+use Rattle.limits.proofs.slots_for.Statement.{statement}
+use Rattle.limits.proofs.slots_for.Tie as tie
+use Rattle.limits.proofs.slots_for.Reads as reads
+use Rattle.limits.proofs.slots_for.Lts as lts
 
 add-if1 : tie.Need-add-if1
 add-if1 c = search needs
