@@ -14,7 +14,7 @@ use Rattle.table.specs.Contents.{Contents, tableOrder, newOrder, risingKeys}
 use Rattle.table.specs.Table.{fresh}
 use Rattle.limits.specs.Lengths.{slotsFor}
 use Rattle.limits.proofs.Lengths.{SlotsOf, slots-for-some}
-use Rattle.assemble.specs.Assemble.{Keys}
+use Rattle.prepare.specs.Prepared.{Keys}
 use Rattle.replies.specs.Replies.{builtOf}
 use Rattle.replies.specs.declared.Refusal.the-variants.{WrongLength, WrongOrder, NotRising, TooManyKeys}
 use Rattle.replies.specs.declared.Built.{Built}

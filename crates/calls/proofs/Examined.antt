@@ -17,7 +17,7 @@ use Rattle.table.proofs.Soundness.{shown-fit}
 use Rattle.examine.specs.Examine.{verdictOf}
 use Rattle.examine.specs.declared.Verdict.{Verdict}
 use Rattle.examine.specs.declared.Verdict.the-variants.{Sound}
-use Rattle.assemble.specs.Assemble.{Keys}
+use Rattle.prepare.specs.Prepared.{Keys}
 use Rattle.examine.proofs.Verdicts.{told-true, told-size, can-be-compared}
 
 -- A sound table of `many` slots, its `n` keys at the start of a list that was lent with room for so many.

@@ -14,7 +14,7 @@ use Rattle.table.specs.Contents.{Contents, tableOrder}
 use Rattle.table.specs.Table.{fresh, contentsOf}
 use Rattle.table.specs.Sound.{soundWith}
 use Rattle.table.proofs.Soundness.{shown-fit, shown-nonzero}
-use Rattle.assemble.specs.Assemble.{Keys}
+use Rattle.prepare.specs.Prepared.{Keys}
 use Rattle.examine.specs.declared.Verdict.{Verdict}
 use Rattle.examine.specs.declared.Verdict.the-variants.{Sound, Unsound}
 use Rattle.examine.specs.Examine.{verdictOf}

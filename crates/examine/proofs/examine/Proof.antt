@@ -14,8 +14,8 @@ use Rattle.table.specs.Contents.{tableOrder}
 use Rattle.table.specs.Table.{fresh, contentsOf}
 use Rattle.table.specs.Sound.{soundWith}
 use Rattle.table.proofs.Soundness.{shown-fit}
-use Rattle.assemble.specs.Assemble.{Keys}
-use Rattle.assemble.proofs.Preparing.{room}
+use Rattle.prepare.specs.Prepared.{Keys}
+use Rattle.prepare.proofs.Preparing.{room}
 use Rattle.examine.proofs.Verdicts.{order-wrong, keys-do-not-rise, decided, unsound, verdict-is, keys-read, can-be-compared, compared}
 use borrow.Author.Needs.{needs}
 use Rattle.examine.proofs.examine.Statement.{statement}

@@ -15,8 +15,8 @@ use Rattle.priority.specs.Priority.{priorityOf}
 use Rattle.treap.specs.Image.{image}
 use Rattle.table.specs.Layout.{mostSlots, leastOrder, greatestOrder}
 use Rattle.table.specs.Contents.{risingKeys}
-use Rattle.assemble.specs.Assemble.{Keys}
-use Rattle.imaging.specs.Written.{writtenTo}
+use Rattle.prepare.specs.Prepared.{Keys}
+use Rattle.parts.specs.Written.{writtenTo}
 use Rattle.image.specs.Layout.{headerBytes}
 use Rattle.image.specs.Image.{imageOf, readImage, isImage}
 use Rattle.image.proofs.Bytes.{IsByte}
