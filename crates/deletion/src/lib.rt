@@ -21,10 +21,10 @@ fn delete_in(table: &mut [u64], many: usize, key: u64, keys: &mut [u64]) -> Dele
     let Verdict::Sound(n) = found else {
         return Deleted::Refused(Refusal::NotSound);
     };
-    if !lookup::holds(table, many, key) {
+    if !entries::holds(table, many, key) {
         return Deleted::Refused(Refusal::KeyAbsent);
     }
-    let rank = lookup::rank_of(table, many, key);
+    let rank = entries::rank_of(table, many, key);
     let left = edit::take_out(keys, n, key);
     sized::write(order, &keys[..left], many, table);
     Deleted::Rank(rank)

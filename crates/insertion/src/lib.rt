@@ -21,7 +21,7 @@ fn insert_in(table: &mut [u64], many: usize, key: u64, keys: &mut [u64]) -> Inse
     let Verdict::Sound(n) = found else {
         return Inserted::Refused(Refusal::NotSound);
     };
-    if lookup::holds(table, many, key) {
+    if entries::holds(table, many, key) {
         return Inserted::Refused(Refusal::KeyHeld);
     }
     if n == many {
@@ -29,7 +29,7 @@ fn insert_in(table: &mut [u64], many: usize, key: u64, keys: &mut [u64]) -> Inse
     }
     edit::put_in(keys, n, key);
     sized::write(order, &keys[..n + 1], many, table);
-    Inserted::Rank(lookup::rank_of(table, many, key))
+    Inserted::Rank(entries::rank_of(table, many, key))
 }
 
 // Insert a key into a table of up to 512 slots.

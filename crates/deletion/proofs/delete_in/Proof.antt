@@ -25,8 +25,8 @@ use Rattle.deletion.proofs.delete_in.Reads as reads
 use Rattle.deletion.proofs.delete_in.Lts as lts
 use Rattle.edit.proofs.take_out.Reads as take-out-reads
 use Rattle.judge.proofs.examine_sized.Reads as examine-sized-reads
-use Rattle.lookup.proofs.holds.Reads as holds-reads
-use Rattle.lookup.proofs.rank_of.Reads as rank-of-reads
+use Rattle.entries.proofs.holds.Reads as holds-reads
+use Rattle.entries.proofs.rank_of.Reads as rank-of-reads
 use Rattle.sized.proofs.write.Reads as write-reads
 
 -- ---- the table as it came

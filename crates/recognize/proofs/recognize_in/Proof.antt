@@ -33,7 +33,7 @@ use Rattle.decode.proofs.sort_keys.Reads as sort-keys-reads
 use Rattle.fields.proofs.get.Reads as get-reads
 use Rattle.ranges.proofs.is_within.Reads as is-within-reads
 use Rattle.reading.proofs.collect.Reads as collect-reads
-use Rattle.recognize.proofs.same_bytes.Reads as same-bytes-reads
+use Rattle.equal.proofs.same_bytes.Reads as same-bytes-reads
 use Rattle.writer.proofs.write.Reads as write-reads
 
 -- ---- the bytes and the lists lent

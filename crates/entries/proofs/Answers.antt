@@ -22,7 +22,7 @@ use Rattle.find.specs.declared.Found.{Found}
 use Rattle.find.specs.declared.Found.the-variants.{At, Nowhere}
 use Rattle.find.proofs.Searching.{found-at, found-nowhere}
 use Rattle.find.proofs.Finding.{held-key-found, absent-key-not-found}
-use Rattle.lookup.specs.Steps.{InSlot}
+use Rattle.entries.specs.Steps.{InSlot}
 
 -- ---- any answer
 -- it names the slot at which the search stops, one of so many

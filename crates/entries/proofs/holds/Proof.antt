@@ -1,13 +1,13 @@
--- `lookup::holds` meets its contract. Assumes nothing.
+-- `entries::holds` meets its contract. Assumes nothing.
 use mathlib.Core.Path.{ap, _∙_}
 use Prim.Native.Nat.{ℕ}
 use native.Mathlib.Omega.{arith}
 use lib.Dec.{eqb}
 use Rattle.table.proofs.Soundness.{WordSized}
-use Rattle.lookup.proofs.Answers.{slot-inside, slot-decides, nowhere-decides}
+use Rattle.entries.proofs.Answers.{slot-inside, slot-decides, nowhere-decides}
 use borrow.Author.Needs.{needs}
-use Rattle.lookup.proofs.holds.Statement.{statement}
-use Rattle.lookup.proofs.holds.Tie as tie
+use Rattle.entries.proofs.holds.Statement.{statement}
+use Rattle.entries.proofs.holds.Tie as tie
 
 -- the words lent are 64-bit numbers
 sized : (p : tie.After-shared-slice-known) → WordSized (p .before .args .table .now)

@@ -1,15 +1,15 @@
--- `recognize::same_bytes` meets its contract. The loop's invariant: the bytes passed agree. Assumes nothing.
+-- `equal::same_bytes` meets its contract. The loop's invariant: the bytes passed agree. Assumes nothing.
 use mathlib.Core.Path.{_≡_, refl, sym, ap, _∙_, subst}
 use Prim.Native.Nat.{ℕ, _-_, _≤_}
 use native.Mathlib.Numerals.{add-one}
 use native.Mathlib.Omega.{arith}
 use lib.ListN.{length, take}
-use Rattle.recognize.proofs.SameBytes.{lengths-differ, differ-at, agree-more, agree-all}
+use Rattle.equal.proofs.SameBytes.{lengths-differ, differ-at, agree-more, agree-all}
 use borrow.Author.Needs.{needs}
-use Rattle.recognize.proofs.same_bytes.Statement.{statement}
-use Rattle.recognize.proofs.same_bytes.Tie as tie
-use Rattle.recognize.proofs.same_bytes.Reads as reads
-use Rattle.recognize.proofs.same_bytes.Lts as lts
+use Rattle.equal.proofs.same_bytes.Statement.{statement}
+use Rattle.equal.proofs.same_bytes.Tie as tie
+use Rattle.equal.proofs.same_bytes.Reads as reads
+use Rattle.equal.proofs.same_bytes.Lts as lts
 
 abbrev Inv-loop : tie.InvT-loop
 Inv-loop left right i₀ i-end i = (i ≤ length left) × (take i left ≡ take i right)

@@ -1,11 +1,11 @@
--- `lookup::rank_of` meets its contract. Assumes nothing.
+-- `entries::rank_of` meets its contract. Assumes nothing.
 use mathlib.Core.Path.{_∙_}
 use native.Mathlib.Omega.{arith}
-use Rattle.lookup.proofs.Answers.{key-in-slot}
-use Rattle.lookup.proofs.Fields.{rank-is}
+use Rattle.entries.proofs.Answers.{key-in-slot}
+use Rattle.entries.proofs.Fields.{rank-is}
 use borrow.Author.Needs.{needs}
-use Rattle.lookup.proofs.rank_of.Statement.{statement}
-use Rattle.lookup.proofs.rank_of.Tie as tie
+use Rattle.entries.proofs.rank_of.Statement.{statement}
+use Rattle.entries.proofs.rank_of.Tie as tie
 
 slot-of-requires : tie.Need-slot-of-requires
 slot-of-requires c κs = search needs

@@ -1,8 +1,8 @@
--- `lookup::next_of` meets its contract. Assumes nothing.
-use Rattle.lookup.proofs.Fields.{next-is-left, next-is-right}
+-- `entries::next_of` meets its contract. Assumes nothing.
+use Rattle.entries.proofs.Fields.{next-is-left, next-is-right}
 use borrow.Author.Needs.{needs}
-use Rattle.lookup.proofs.next_of.Statement.{statement}
-use Rattle.lookup.proofs.next_of.Tie as tie
+use Rattle.entries.proofs.next_of.Statement.{statement}
+use Rattle.entries.proofs.next_of.Tie as tie
 
 word-of-requires : tie.Need-word-of-requires
 word-of-requires c κs = search needs

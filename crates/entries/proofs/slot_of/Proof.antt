@@ -1,10 +1,10 @@
--- `lookup::slot_of` meets its contract. Assumes nothing.
+-- `entries::slot_of` meets its contract. Assumes nothing.
 use native.Mathlib.Omega.{arith}
 use Rattle.table.proofs.Soundness.{WordSized}
-use Rattle.lookup.proofs.Answers.{held-slot, held-somewhere}
+use Rattle.entries.proofs.Answers.{held-slot, held-somewhere}
 use borrow.Author.Needs.{needs}
-use Rattle.lookup.proofs.slot_of.Statement.{statement}
-use Rattle.lookup.proofs.slot_of.Tie as tie
+use Rattle.entries.proofs.slot_of.Statement.{statement}
+use Rattle.entries.proofs.slot_of.Tie as tie
 
 -- the words lent are 64-bit numbers
 sized : (p : tie.After-shared-slice-known) → WordSized (p .before .args .table .now)

@@ -1,9 +1,9 @@
--- `lookup::level_of` meets its contract. Assumes nothing.
+-- `entries::level_of` meets its contract. Assumes nothing.
 use native.Mathlib.Omega.{arith}
-use Rattle.lookup.proofs.Fields.{rank-word-small, root-level-is, other-level-is}
+use Rattle.entries.proofs.Fields.{rank-word-small, root-level-is, other-level-is}
 use borrow.Author.Needs.{needs}
-use Rattle.lookup.proofs.level_of.Statement.{statement}
-use Rattle.lookup.proofs.level_of.Tie as tie
+use Rattle.entries.proofs.level_of.Statement.{statement}
+use Rattle.entries.proofs.level_of.Tie as tie
 
 word-of-requires : tie.Need-word-of-requires
 word-of-requires c κs = search needs

@@ -1,28 +1,26 @@
 -- The words of a key's slot in a sound table. Assumes that the slot is one of the table's and holds the key.
-use mathlib.Core.Bool.{Bool, true}
+use mathlib.Core.Bool.{true}
 use mathlib.Core.List.{List}
 use mathlib.Core.Logic.{_≢_}
 use mathlib.Core.Path.{_≡_, sym, ap, _∙_}
-use Prim.Native.Nat.{ℕ, zero, suc, _+_, _<_, _≤_}
+use Prim.Native.Nat.{ℕ, _+_, _<_, _≤_}
 use native.Mathlib.Omega.{arith}
-use lib.ListN.{length, getD, drop}
+use lib.ListN.{getD, drop}
 use lib.Seq.{getD-take, getD-drop}
 use borrow.Author.Tests.{eq-eqb, ne-eqb, lt-ltb, le-ltb}
-use Rattle.lists.specs.Lists.{member, largest}
-use Rattle.lists.proofs.Tests.{by-test}
 use Rattle.priority.specs.Priority.{priorityOf}
 use Rattle.treap.specs.Treap.{top, leftLink, rightLink}
-use Rattle.treap.specs.Levels.{level, rank, count, leader}
+use Rattle.treap.specs.Levels.{rank, count, leader}
 use Rattle.treap.specs.Blocks.{rootRank}
 use Rattle.structure.proofs.Blocks.{blockLevel}
+use Rattle.structure.proofs.Bounds.{rank-at-most}
 use Rattle.table.specs.Layout.{mostSlots, slotWords, rootWord, leftField, rightField, leaderField, rankField, countField, slotStart, keyIn}
 use Rattle.table.specs.Contents.{Contents}
 use Rattle.table.specs.Table.{slotOf, fresh, contentsOf}
 use Rattle.table.specs.Sound.{soundWith}
 use Rattle.table.proofs.Words.{fresh-root, slot-in-fresh, fresh-key}
 use Rattle.table.proofs.Soundness.{sound-exactly, shown-fit}
-use Rattle.lookup.specs.Lookup.{standingOf}
-use Rattle.lookup.specs.Steps.{nextKey, InSlot}
+use Rattle.entries.specs.Steps.{nextKey, InSlot}
 
 -- any word of a slot that holds a key, in a fresh table
 field-in-fresh : (many : ℕ) (c : Contents) (k slot field : ℕ) → slot < many → keyIn (fresh many c) slot ≡ k → field < slotWords
@@ -36,17 +34,6 @@ field-in-fresh many c k slot field inside holds within =
 pub root-is : (many : ℕ) (words : List ℕ) → soundWith many words ≡ true → getD words rootWord 0 ≡ top priorityOf (contentsOf many words .keys)
 root-is many words passed =
     ap (λ (ws : List ℕ). getD ws rootWord 0) (sound-exactly many words passed) ∙ fresh-root many (contentsOf many words)
-
--- ---- a rank is no larger than the number of slots
-largest-within : (f : ℕ → Bool) (bound : ℕ) → largest f bound ≤ bound
-largest-within f zero = omega arith
-largest-within f (suc bound) =
-    let below = largest-within f bound in
-    by-test (f (suc bound)) (λ e. rw e (omega arith)) (λ e. rw e (omega arith))
-
-rank-small : (α : ℕ) (p : ℕ → ℕ) (ks : List ℕ) (k : ℕ) → rank α p ks k ≤ length ks
-unfolding rank
-rank-small α p ks k = largest-within (λ i. member k (level α p ks i)) (length ks)
 
 -- ---- the words of a key's slot, in a sound table
 module _ (many : ℕ) (words : List ℕ) (k slot : ℕ) (at : InSlot many words k slot) where
@@ -70,7 +57,7 @@ module _ (many : ℕ) (words : List ℕ) (k slot : ℕ) (at : InSlot many words 
   unfolding slotOf
   right-is = field-is rightField (omega arith) ∙ rw (ne-eqb k 0 key-some)
 
-  leader-is : getD words (slotStart slot + leaderField) 0 ≡ leader (c .order) priorityOf (c .keys) k
+  pub leader-is : getD words (slotStart slot + leaderField) 0 ≡ leader (c .order) priorityOf (c .keys) k
   unfolding slotOf
   leader-is = field-is leaderField (omega arith) ∙ rw (ne-eqb k 0 key-some)
 
@@ -78,20 +65,14 @@ module _ (many : ℕ) (words : List ℕ) (k slot : ℕ) (at : InSlot many words 
   unfolding slotOf
   rank-is = field-is rankField (omega arith) ∙ rw (ne-eqb k 0 key-some)
 
-  count-is : getD words (slotStart slot + countField) 0 ≡ count (c .order) priorityOf (c .keys) k
+  pub count-is : getD words (slotStart slot + countField) 0 ≡ count (c .order) priorityOf (c .keys) k
   unfolding slotOf
   count-is = field-is countField (omega arith) ∙ rw (ne-eqb k 0 key-some)
 
   pub rank-word-small : getD words (slotStart slot + rankField) 0 ≤ mostSlots
-  rank-word-small = omega (arith, rank-is, rank-small (c .order) priorityOf (c .keys) k, shown-fit many words, at .few)
+  rank-word-small = omega (arith, rank-is, rank-at-most (c .order) priorityOf (c .keys) k, shown-fit many words, at .few)
 
   -- what the words amount to
-  pub standing-is : (rankWord countWord leaderWord : ℕ) → rankWord ≡ getD words (slotStart slot + rankField) 0 → countWord ≡ getD words (slotStart slot + countField) 0
-      → leaderWord ≡ getD words (slotStart slot + leaderField) 0 → record { rank = rankWord; count = countWord; leader = leaderWord } ≡ standingOf c k
-  unfolding standingOf
-  standing-is rankWord countWord leaderWord e f g =
-      λ i. record { rank = (e ∙ rank-is) i; count = (f ∙ count-is) i; leader = (g ∙ leader-is) i }
-
   pub root-level-is : (word : ℕ) → word ≡ getD words (slotStart slot + rankField) 0 → k ≡ getD words rootWord 0 → word ≡ blockLevel (c .order) priorityOf (c .keys) k
   unfolding blockLevel rootRank
   root-level-is word e r =
