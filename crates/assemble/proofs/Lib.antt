@@ -1,2 +1,2 @@
--- Lemmas of assembling over plain lists.
-pub mod Preparing
+-- Laws of assembling.
+pub mod Linking

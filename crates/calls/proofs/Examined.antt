@@ -14,11 +14,11 @@ use Rattle.table.specs.Contents.{tableOrder}
 use Rattle.table.specs.Table.{contentsOf}
 use Rattle.table.specs.Sound.{soundWith}
 use Rattle.table.proofs.Soundness.{shown-fit}
-use Rattle.judge.specs.Judge.{verdictOf}
-use Rattle.judge.specs.declared.Verdict.{Verdict}
-use Rattle.judge.specs.declared.Verdict.the-variants.{Sound}
-use Rattle.assemble.specs.Assemble.{Keys}
-use Rattle.judge.proofs.Verdicts.{told-true, told-size, can-be-compared}
+use Rattle.examine.specs.Examine.{verdictOf}
+use Rattle.examine.specs.declared.Verdict.{Verdict}
+use Rattle.examine.specs.declared.Verdict.the-variants.{Sound}
+use Rattle.prepare.specs.Prepared.{Keys}
+use Rattle.examine.proofs.Verdicts.{told-true, told-size, can-be-compared}
 
 -- A sound table of `many` slots, its `n` keys at the start of a list that was lent with room for so many.
 pub record Examined (many : ℕ) (words lent keys : List ℕ) (n : ℕ) : Type 0 where

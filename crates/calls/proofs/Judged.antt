@@ -12,9 +12,10 @@ use Rattle.table.specs.Layout.{mostSlots, tableWords}
 use Rattle.table.specs.Contents.{Contents}
 use Rattle.table.specs.Table.{contentsOf}
 use Rattle.table.specs.Sound.{soundWith}
-use Rattle.judge.specs.Judge.{slotsFor, isSound}
-use Rattle.judge.proofs.Lengths.{slots-for-is}
-use Rattle.judge.proofs.Verdicts.{decided-with}
+use Rattle.limits.specs.Lengths.{slotsFor}
+use Rattle.judge.specs.Judge.{isSound}
+use Rattle.limits.proofs.Lengths.{slots-for-is}
+use Rattle.judge.proofs.Decides.{decided-with}
 use Rattle.calls.specs.Reasons.{shown}
 
 module _ (words : List ℕ) (many : ℕ) (some : 0 < many) (most : many ≤ mostSlots) (long : length words ≡ tableWords many) where
@@ -25,7 +26,7 @@ module _ (words : List ℕ) (many : ℕ) (some : 0 < many) (most : many ≤ most
   right-length = ne-eqb (slotsFor (length words)) 0 (λ e. let h = slots-here in omega arith)
 
   pub judged : (b : Bool) → soundWith many words ≡ b → isSound words ≡ b
-  judged b e = decided-with many words slots-here (λ q. omega arith) ∙ e
+  judged b e = decided-with words many slots-here (λ q. omega arith) ∙ e
 
   pub shown-is : shown words ≡ contentsOf many words
   unfolding shown

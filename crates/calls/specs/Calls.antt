@@ -11,7 +11,7 @@ use Rattle.table.specs.Contents.{Contents}
 use Rattle.table.specs.Table.{fresh}
 use Rattle.image.specs.Image.{imageOf, readImage}
 use Rattle.edit.specs.Edit.{joined, without}
-use Rattle.judge.specs.Judge.{slotsFor}
+use Rattle.limits.specs.Lengths.{slotsFor}
 use Rattle.ranges.specs.Ranges.{within}
 use Rattle.replies.specs.Replies.{Reply, lowest, unlessRefused}
 use Rattle.calls.specs.Reasons.{wrongLength, wrongOrder, zeroKey, lowAboveHigh, notRising, notAnImage, notSound, keyHeld, keyAbsent, tooManyKeys, outputTooShort, shown}

@@ -8,7 +8,8 @@ use Rattle.lists.specs.Lists.{member}
 use Rattle.table.specs.Contents.{Contents, newOrder, risingKeys}
 use Rattle.table.specs.Table.{contentsOf}
 use Rattle.image.specs.Image.{isImage}
-use Rattle.judge.specs.Judge.{slotsFor, isSound}
+use Rattle.limits.specs.Lengths.{slotsFor}
+use Rattle.judge.specs.Judge.{isSound}
 use Rattle.replies.specs.Replies.{Reason}
 
 -- The order and the set that the words show.

@@ -1,5 +1,3 @@
--- Laws of insert and delete, one subject a file.
+-- Laws that insert and delete share, one subject a file.
 pub mod Sets
 pub mod Written
-pub mod Inserting
-pub mod Deleting

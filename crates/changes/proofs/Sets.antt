@@ -16,7 +16,7 @@ use Rattle.lists.proofs.Pairwise.{pairwise-keep}
 use Rattle.lists.proofs.Sorting.{all-permuted, length-permuted, insertBy-permutes}
 use Rattle.table.specs.Layout.{mostSlots, leastOrder, greatestOrder}
 use Rattle.table.specs.Contents.{Contents, tableOrder, IsKey, Valid}
-use Rattle.assemble.specs.Assemble.{Keys}
+use Rattle.prepare.specs.Prepared.{Keys}
 use Rattle.edit.specs.Edit.{joined, without}
 
 -- ---- a key more

@@ -12,7 +12,7 @@ use Rattle.table.specs.Table.{fresh, contentsOf}
 use Rattle.table.specs.Sound.{soundWith}
 use Rattle.table.proofs.Reading.{contents-of-fresh}
 use Rattle.table.proofs.Soundness.{fresh-passes}
-use Rattle.assemble.specs.Assemble.{Keys}
+use Rattle.prepare.specs.Prepared.{Keys}
 use Rattle.calls.specs.Calls.{rankIn}
 
 module _ (many : ℕ) (c : Contents) (some : 1 ≤ many) (valid : Valid many c) (words : List ℕ) (written : words ≡ fresh many c) where

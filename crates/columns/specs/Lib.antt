@@ -1,5 +1,3 @@
--- The definitions that the contracts of `columns` cite.
+-- The columns of a rising list of keys, over positions.
 pub mod Positions
-pub mod Links
 pub mod Columns
-pub mod Steps

@@ -1,4 +1,1 @@
-// The columns of a rising list of keys, in terms of positions.
-pub mod leaders;
-pub mod links;
-pub mod ranks;
+// The columns of a rising list of keys, in terms of positions: definitions and laws, no code.

@@ -11,7 +11,8 @@ use Rattle.table.specs.Table.{fresh, Sound}
 use Rattle.table.proofs.Words.{fresh-length}
 use Rattle.table.proofs.Reading.{contents-of-fresh}
 use Rattle.table.proofs.Soundness.{fresh-passes}
-use Rattle.judge.specs.Judge.{slotsFor, isSound}
+use Rattle.limits.specs.Lengths.{slotsFor}
+use Rattle.judge.specs.Judge.{isSound}
 use Rattle.calls.specs.Reasons.{shown}
 use Rattle.calls.proofs.Judged.{slots-here, right-length, judged, shown-is}
 

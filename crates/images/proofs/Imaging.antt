@@ -14,9 +14,9 @@ use Rattle.table.specs.Contents.{Contents}
 use Rattle.table.specs.Layout.{mostSlots, tableWords, orderWord}
 use Rattle.table.specs.Table.{contentsOf}
 use Rattle.table.specs.Sound.{soundWith}
-use Rattle.judge.specs.Judge.{slotsFor}
+use Rattle.limits.specs.Lengths.{slotsFor}
 use Rattle.image.specs.Image.{imageOf}
-use Rattle.imaging.specs.Written.{writtenTo}
+use Rattle.parts.specs.Written.{writtenTo}
 use Rattle.replies.specs.Replies.{writtenOf}
 use Rattle.replies.specs.declared.Refusal.the-variants.{WrongLength, NotSound, OutputTooShort}
 use Rattle.replies.specs.declared.Written.{Written}

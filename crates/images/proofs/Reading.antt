@@ -11,7 +11,7 @@ use Rattle.treap.specs.Image.{orderBytes}
 use Rattle.table.specs.Contents.{Contents}
 use Rattle.table.specs.Layout.{mostSlots, tableWords}
 use Rattle.table.specs.Table.{fresh}
-use Rattle.judge.specs.Judge.{slotsFor}
+use Rattle.limits.specs.Lengths.{slotsFor}
 use Rattle.image.specs.Layout.{orderAt}
 use Rattle.image.specs.Image.{fieldAt, readImage, isImage}
 use Rattle.replies.specs.Replies.{readBackOf}

@@ -7,9 +7,9 @@ ghost use Rattle.table.specs.Layout.{mostSlots, tableWords};
 ghost use Rattle.reading.specs.Reading.{RoomFor};
 ghost use Rattle.replies.specs.Replies.{writtenOf, readBackOf};
 ghost use Rattle.calls.specs.Calls.{writeReply, writeOutput, readReply, readAfter};
+use examine::Verdict;
 use image::ORDER_AT;
 use image::ORDER_BYTES;
-use judge::Verdict;
 use recognize::Recognized;
 use replies::ReadBack;
 use replies::Refusal;
@@ -59,7 +59,7 @@ pub fn write(table: &[u64], output: &mut [u8]) -> Written
     ensures { λ r. ⌜ writtenOf r ≡ writeReply (now (table .entry)) (now (output .entry)) ⌝ }
     ensures { λ _. ⌜ now (output .exit) ≡ writeOutput (now (table .entry)) (now (output .entry)) ⌝ }
 {
-    let many = judge::slots_for(table.len());
+    let many = limits::slots_for(table.len());
     if many == 0 {
         return Written::Refused(Refusal::WrongLength);
     }
@@ -112,7 +112,7 @@ pub fn read(table: &mut [u64], image: &[u8]) -> ReadBack
     ensures { λ r. ⌜ readBackOf r ≡ readReply (now (table .entry)) (now (image .entry)) ⌝ }
     ensures { λ _. ⌜ now (table .exit) ≡ readAfter (now (table .entry)) (now (image .entry)) ⌝ }
 {
-    let many = judge::slots_for(table.len());
+    let many = limits::slots_for(table.len());
     if many == 0 {
         return ReadBack::Refused(Refusal::WrongLength);
     }

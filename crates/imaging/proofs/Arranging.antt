@@ -18,10 +18,10 @@ use Rattle.columns.specs.Positions.{positions, weightAt}
 use Rattle.columns.specs.Columns.{leftColumn, rightColumn, rankColumn, countColumn, leaderColumn}
 use Rattle.columns.proofs.Filled.{column-length, column-at}
 use Rattle.encode.proofs.Fresh.{Right}
-use Rattle.assemble.specs.Assemble.{Keys, Filled}
-use Rattle.assemble.proofs.Preparing.{room, root-low, left-low, right-low, leader-low, many-weights}
-use Rattle.imaging.specs.Naming.{blockWeight, blockWeights, Ranked}
-use Rattle.imaging.specs.Parts.{Listed}
+use Rattle.prepare.specs.Prepared.{Keys, Filled}
+use Rattle.prepare.proofs.Preparing.{room, root-low, left-low, right-low, leader-low, many-weights}
+use Rattle.naming.specs.Naming.{blockWeight, blockWeights, Ranked}
+use Rattle.parts.specs.Parts.{Listed}
 use Rattle.imaging.specs.Arranged.{Arranged}
 
 pub weights-length : (root : ℕ) (rank leader : List ℕ) (n : ℕ) → length (blockWeights root rank leader n) ≡ n

@@ -30,9 +30,9 @@ use Rattle.columns.specs.Positions.{positions, weightAt}
 use Rattle.encode.specs.Encode.{Columns, keyAt}
 use Rattle.encode.proofs.Renaming.{key-at-suc, key-at-zero, keys-of-positions, keys-rename}
 use Rattle.encode.proofs.Fresh.{Right, linked, numbered}
-use Rattle.imaging.specs.Naming.{levelAt, leaderAt, blockWeight, blockWeights, sameWeight, Ranked}
-use Rattle.imaging.specs.Parts.{nodeAt}
-use Rattle.imaging.proofs.Weights.{leader-bound}
+use Rattle.naming.specs.Naming.{levelAt, leaderAt, blockWeight, blockWeights, sameWeight, Ranked}
+use Rattle.parts.specs.Parts.{nodeAt}
+use Rattle.naming.proofs.Weights.{leader-bound}
 use Rattle.imaging.proofs.Arranging.{weights-length}
 use Rattle.imaging.proofs.RunsRenamed.{renamed-less, renamed-same, precedes-renamed, agree-renamed}
 

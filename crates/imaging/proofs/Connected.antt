@@ -19,9 +19,9 @@ use Rattle.structure.proofs.BlockRuns.{blockFrom, blocks-are-runs}
 use Rattle.columns.specs.Positions.{positions, weightAt}
 use Rattle.encode.specs.Encode.{Columns, keyAt}
 use Rattle.encode.proofs.Fresh.{Right}
-use Rattle.assemble.specs.Assemble.{Keys}
-use Rattle.imaging.specs.Naming.{levelAt, leaderAt, blockWeights, sameWeight, Ranked}
-use Rattle.imaging.specs.Parts.{nodeAt, blockAt, blocksAt, imageAt}
+use Rattle.prepare.specs.Prepared.{Keys}
+use Rattle.naming.specs.Naming.{levelAt, leaderAt, blockWeights, sameWeight, Ranked}
+use Rattle.parts.specs.Parts.{nodeAt, blockAt, blocksAt, imageAt}
 use Rattle.imaging.specs.Arranged.{Arranged}
 use Rattle.imaging.proofs.Arranging.{weights-length, ranked, columns-right}
 use Rattle.imaging.proofs.RunsRenamed.{Run, runs-all, runs-renamed}

@@ -7,8 +7,8 @@ use Rattle.priority.specs.Priority.{priorityOf}
 use Rattle.sorting.specs.ByWeight.{byWeight}
 use Rattle.treap.specs.Treap.{top}
 use Rattle.columns.specs.Positions.{positions, weightAt}
-use Rattle.assemble.specs.Assemble.{Filled}
-use Rattle.imaging.specs.Naming.{blockWeights}
+use Rattle.prepare.specs.Prepared.{Filled}
+use Rattle.naming.specs.Naming.{blockWeights}
 
 -- What an image is written from: the columns of the keys and their root, by position, the weights of the blocks that hold the keys,
 -- and the indices of the keys in the image's order.

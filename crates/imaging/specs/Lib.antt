@@ -1,5 +1,2 @@
--- The image from the columns of its keys, by index.
-pub mod Naming
-pub mod Parts
-pub mod Written
+-- What an image is written from.
 pub mod Arranged

@@ -1,22 +1,12 @@
 // Writing the image of an order and keys.
 ghost use mathlib.Core.Path.{_≡_};
-ghost use Prim.Native.Nat.{_+_, _<_, _≤_};
+ghost use Prim.Native.Nat.{_≤_};
 ghost use lib.ListN.{length};
-ghost use Rattle.lists.specs.Lists.{All};
 ghost use Rattle.priority.specs.Priority.{priorityOf};
 ghost use Rattle.treap.specs.Image.{image};
-ghost use Rattle.assemble.specs.Assemble.{Keys};
-ghost use Rattle.imaging.specs.Naming.{Ranked};
-ghost use Rattle.imaging.specs.Parts.{imageAt, Listed};
-ghost use Rattle.imaging.specs.Written.{writtenTo};
+ghost use Rattle.prepare.specs.Prepared.{Keys};
+ghost use Rattle.parts.specs.Written.{writtenTo};
 ghost use Rattle.imaging.specs.Arranged.{Arranged};
-use image::BLOCK_BYTES;
-use image::HEADER_BYTES;
-use image::NODE_BYTES;
-
-mod names;
-mod parts;
-mod runs;
 
 // Make of the keys all that an image is written from; the position of the root. What `spare` then holds is left open.
 fn arrange(
@@ -38,8 +28,8 @@ fn arrange(
     ensures { λ r. ⌜ Arranged order (now (keys .entry)) (now (weights .exit)) (now (sorted .exit)) (now (left .exit)) (now (right .exit)) (now (rank .exit)) (now (count .exit)) (now (leader .exit)) r ⌝ }
 {
     let n = keys.len();
-    assemble::prioritize(keys, weights, sorted, spare);
-    let root = assemble::fill(
+    prepare::prioritize(keys, weights, sorted, spare);
+    let root = prepare::fill(
         &weights[..n],
         order,
         sorted,
@@ -49,51 +39,9 @@ fn arrange(
         count,
         leader,
     );
-    names::weigh(n, root as u64, rank, leader, weights);
+    naming::names::weigh(n, root as u64, rank, leader, weights);
     sorting::by_weight(weights, n, sorted, spare);
     root
-}
-
-// Write the image to the start of `output` where it has room for it. The image's length, in either case.
-fn emit(
-    order: u64,
-    keys: &[u64],
-    root: u64,
-    left: &[u64],
-    right: &[u64],
-    rank: &[u64],
-    count: &[u64],
-    leader: &[u64],
-    weights: &[u64],
-    sorted: &[u64],
-    output: &mut [u8],
-) -> usize
-    requires { ⌜ Listed (now keys) (now left) (now right) (now rank) (now count) ⌝ }
-    requires { ⌜ Ranked (length (now keys)) root (now rank) (now leader) ⌝ }
-    requires { ⌜ (length (now weights) ≡ length (now keys)) × (length (now sorted) ≡ length (now keys)) × All (λ i. i < length (now keys)) (now sorted) ⌝ }
-    ensures { λ r. ⌜ r ≡ length (imageAt order (now (keys .entry)) root (record { left = now (left .entry); right = now (right .entry); leader = now (leader .entry); rank = now (rank .entry); count = now (count .entry) }) (now (weights .entry)) (now (sorted .entry))) ⌝ }
-    ensures { λ _. ⌜ now (output .exit) ≡ writtenTo (now (output .entry)) (imageAt order (now (keys .entry)) root (record { left = now (left .entry); right = now (right .entry); leader = now (leader .entry); rank = now (rank .entry); count = now (count .entry) }) (now (weights .entry)) (now (sorted .entry))) ⌝ }
-{
-    let blocks = runs::count_runs(weights, sorted);
-    let size = HEADER_BYTES + BLOCK_BYTES * blocks + NODE_BYTES * keys.len();
-    if output.len() < size {
-        return size;
-    }
-    let top = encode::key_at(keys, root);
-    records::put_header(output, 0, order, keys.len() as u64, blocks as u64, top);
-    parts::put_blocks(
-        keys,
-        root,
-        left,
-        right,
-        rank,
-        count,
-        leader,
-        weights,
-        sorted,
-        output,
-    );
-    size
 }
 
 // Write the image of the order and the keys to the start of `output` where it has room for it, and no byte where it has not. The
@@ -132,7 +80,7 @@ pub fn write(
         leader,
         spare,
     );
-    emit(
+    parts::emit(
         order,
         keys,
         root as u64,

@@ -15,8 +15,9 @@ use Rattle.table.specs.Table.{fresh, Sound}
 use Rattle.table.specs.Sound.{soundWith}
 use Rattle.table.proofs.Words.{fresh-length}
 use Rattle.table.proofs.Soundness.{WordSized, sound-says, sound-when}
-use Rattle.judge.specs.Judge.{slotsFor, isSound}
-use Rattle.judge.proofs.Lengths.{SlotsOf, slots-for-is, slots-for-some}
+use Rattle.limits.specs.Lengths.{slotsFor}
+use Rattle.limits.proofs.Lengths.{SlotsOf, slots-for-is, slots-for-some}
+use Rattle.judge.specs.Judge.{isSound}
 
 module _ (words : List ℕ) where
   pub some-slots : isSound words ≡ true → slotsFor (length words) ≢ 0
@@ -47,3 +48,13 @@ module _ (words : List ℕ) where
       let some = sound .some in
       and-both (not (eqb many 0)) (soundWith many words) (ap not (ne-eqb many 0 (λ e. omega arith)))
       (sound-when many words sound (long ∙ ap tableWords (sym as-many)))
+
+  -- the test, once the number of slots is known
+  pub decided-with : (many : ℕ) → slotsFor (length words) ≡ many → many ≢ 0 → isSound words ≡ soundWith many words
+  unfolding isSound
+  decided-with many e d = rw (e, ne-eqb many 0 d) refl
+
+  -- words that no table has
+  pub no-slots : slotsFor (length words) ≡ 0 → false ≡ isSound words
+  unfolding isSound
+  no-slots e = rw e refl

@@ -1,4 +1,2 @@
 -- Laws of judging.
-pub mod Lengths
-pub mod Verdicts
 pub mod Decides

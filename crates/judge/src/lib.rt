@@ -7,111 +7,11 @@ ghost use Rattle.lists.specs.Lists.{overwrite};
 ghost use Rattle.table.specs.Layout.{mostSlots, tableWords};
 ghost use Rattle.table.specs.Table.{contentsOf};
 ghost use Rattle.table.specs.Sound.{soundWith};
-ghost use Rattle.judge.specs.Judge.{slotsFor, verdictOf, isSound};
-use table::GREATEST_ORDER;
-use table::HEADER_WORDS;
-use table::LEAST_ORDER;
-use table::MOST_SLOTS;
-use table::ORDER_WORD;
-use table::SLOT_WORDS;
+ghost use Rattle.examine.specs.Examine.{verdictOf};
+ghost use Rattle.judge.specs.Judge.{isSound};
+use examine::Verdict;
 
-// The number of slots of a table of so many words; 0 where no table has so many.
-pub fn slots_for(words: usize) -> usize
-    ensures { λ r. ⌜ r ≡ slotsFor words ⌝ }
-{
-    if words < HEADER_WORDS + SLOT_WORDS {
-        return 0;
-    }
-    let rest = words - HEADER_WORDS;
-    if rest % SLOT_WORDS != 0 {
-        return 0;
-    }
-    let many = rest / SLOT_WORDS;
-    if MOST_SLOTS < many {
-        return 0;
-    }
-    many
-}
-
-// What examining a table finds: how many keys it holds, where it is sound.
-pub enum Verdict {
-    Sound(usize),
-    Unsound,
-}
-
-// Write at the start of `keys` the keys in the slots of a table, rising; how many there are. What the other lists then hold is
-// left open.
-fn read_keys(
-    table: &[u64],
-    many: usize,
-    held: &mut [u64],
-    weights: &mut [u64],
-    ranking: &mut [u64],
-    spare: &mut [u64],
-    keys: &mut [u64],
-) -> usize
-    requires { ⌜ tableWords many ≤ length (now table) ⌝ }
-    requires { ⌜ (many ≤ length (now held)) × (many ≤ length (now weights)) × (many ≤ length (now ranking)) × (many ≤ length (now spare)) × (many ≤ length (now keys)) ⌝ }
-    ensures { λ r. ⌜ r ≡ length (contentsOf many (now (table .entry)) .keys) ⌝ }
-    ensures { λ _. ⌜ now (keys .exit) ≡ overwrite (now (keys .entry)) 0 (contentsOf many (now (table .entry)) .keys) ⌝ }
-{
-    let n = decode::collect(table, many, held);
-    decode::sort_keys(held, n, weights, ranking, spare, keys);
-    n
-}
-
-// Examine a table of `many` slots; where it is sound, its keys, rising, are then at the start of `keys`. Internal to this
-// library's crates: the other lists are room to work in, as long as the table has slots; what they then hold is left open.
-pub fn examine(
-    table: &[u64],
-    many: usize,
-    keys: &mut [u64],
-    weights: &mut [u64],
-    ranking: &mut [u64],
-    left: &mut [u64],
-    right: &mut [u64],
-    rank: &mut [u64],
-    count: &mut [u64],
-    leader: &mut [u64],
-    slots: &mut [u64],
-) -> Verdict
-    requires { ⌜ (0 < many) × (many ≤ mostSlots) × (length (now table) ≡ tableWords many) × (length (now slots) ≡ many) ⌝ }
-    requires { ⌜ (many ≤ length (now keys)) × (many ≤ length (now weights)) × (many ≤ length (now ranking)) ⌝ }
-    requires { ⌜ (many ≤ length (now left)) × (many ≤ length (now right)) × (many ≤ length (now rank)) ⌝ }
-    requires { ⌜ (many ≤ length (now count)) × (many ≤ length (now leader)) ⌝ }
-    ensures { λ r. ⌜ r ≡ verdictOf many (now (table .entry)) ⌝ }
-    ensures { λ _. ⌜ (soundWith many (now (table .entry)) ≡ true → now (keys .exit) ≡ overwrite (now (keys .entry)) 0 (contentsOf many (now (table .entry)) .keys)) ⌝ }
-{
-    let order = table[ORDER_WORD];
-    if order < LEAST_ORDER {
-        return Verdict::Unsound;
-    }
-    if GREATEST_ORDER < order {
-        return Verdict::Unsound;
-    }
-    let n = read_keys(table, many, rank, weights, ranking, left, keys);
-    if !decode::rises(keys, n) {
-        return Verdict::Unsound;
-    }
-    if assemble::compare(
-        order,
-        &keys[..n],
-        weights,
-        ranking,
-        left,
-        right,
-        rank,
-        count,
-        leader,
-        slots,
-        table,
-    ) {
-        return Verdict::Sound(n);
-    }
-    Verdict::Unsound
-}
-
-// The same with `slots` at least as long as the table has slots.
+// Examine a table of `many` slots, with `slots` at least as long as it has slots.
 fn examine_within(
     table: &[u64],
     many: usize,
@@ -132,7 +32,7 @@ fn examine_within(
     ensures { λ r. ⌜ r ≡ verdictOf many (now (table .entry)) ⌝ }
     ensures { λ _. ⌜ (soundWith many (now (table .entry)) ≡ true → now (keys .exit) ≡ overwrite (now (keys .entry)) 0 (contentsOf many (now (table .entry)) .keys)) ⌝ }
 {
-    examine(
+    examine::examine(
         table,
         many,
         keys,
@@ -283,7 +183,7 @@ fn decide(table: &[u64], many: usize) -> Verdict
 pub fn judge(table: &[u64]) -> bool
     ensures { λ r. ⌜ r ≡ isSound (now (table .entry)) ⌝ }
 {
-    let many = slots_for(table.len());
+    let many = limits::slots_for(table.len());
     if many == 0 {
         return false;
     }

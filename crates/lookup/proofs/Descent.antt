@@ -19,7 +19,7 @@ use Rattle.treap.specs.Treap.Tree.{leaf, node}
 use Rattle.structure.proofs.Shape.{size, keys-root, Good, lesser-below, greater-above}
 use Rattle.structure.proofs.Subtrees.{subtree-root, subtree-left, subtree-right, path-root, good-subtree, member-left, member-right}
 use Rattle.structure.proofs.Paths.{left-member, right-member, subtree-below}
-use Rattle.lookup.specs.Steps.{nextKey}
+use Rattle.entries.specs.Steps.{nextKey}
 
 -- ---- any tree
 -- a tree is the subtree of its root

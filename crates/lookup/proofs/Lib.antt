@@ -1,6 +1,5 @@
--- Laws of the search of a sound table, one subject a file.
-pub mod Answers
-pub mod Fields
+-- Laws of the way down, one subject a file.
+pub mod Standings
 pub mod Changes
 pub mod Descent
 pub mod WayDown

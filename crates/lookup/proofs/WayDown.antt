@@ -24,7 +24,7 @@ use Rattle.structure.proofs.SearchPath.{path-levels-fall, blocks-met-is}
 use Rattle.table.specs.Layout.{leastOrder, greatestOrder}
 use Rattle.table.specs.Contents.{Contents, tableOrder, IsKey, Valid}
 use Rattle.lookup.specs.Lookup.{standingOf, lookedUp}
-use Rattle.lookup.specs.Steps.{nextKey}
+use Rattle.entries.specs.Steps.{nextKey}
 use Rattle.lookup.specs.declared.Looked.the-variants.{Held, Absent}
 use Rattle.lookup.proofs.Changes.{changes, changes-same, Counted, counted-on, counted-most, NeverRising, changes-count}
 use Rattle.lookup.proofs.Descent.{root-subtree, zero-subtree, side, root-in-tree, path-begins, path-here, path-on, side-smaller, member-on, side-again, next-is-side}

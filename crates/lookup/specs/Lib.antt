@@ -1,3 +1,2 @@
--- The lookup of a key: its answer, and its steps.
+-- The lookup of a key: its answer.
 pub mod Lookup
-pub mod Steps

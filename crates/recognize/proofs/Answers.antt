@@ -10,7 +10,7 @@ use Rattle.lists.proofs.Keep.{all-map}
 use Rattle.treap.specs.Image.{orderBytes}
 use Rattle.table.specs.Layout.{mostSlots, leastOrder, greatestOrder}
 use Rattle.table.specs.Contents.{Contents, tableOrder, IsKey, Valid}
-use Rattle.assemble.specs.Assemble.{Keys}
+use Rattle.prepare.specs.Prepared.{Keys}
 use Rattle.image.specs.Layout.{headerBytes, orderAt}
 use Rattle.image.specs.Image.{fieldAt, readImage, isImage}
 use Rattle.image.proofs.Lengths.{image-length}

@@ -1,4 +1,3 @@
 -- Laws of recognizing an image, one subject a file.
-pub mod SameBytes
 pub mod Recognizing
 pub mod Answers

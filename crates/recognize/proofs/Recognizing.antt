@@ -20,13 +20,13 @@ use Rattle.treap.specs.Image.{image, orderBytes}
 use Rattle.table.specs.Layout.{mostSlots, leastOrder, greatestOrder}
 use Rattle.table.specs.Contents.{tableOrder, risingKeys}
 use Rattle.decode.proofs.RisingKeys.{rising-says}
-use Rattle.assemble.specs.Assemble.{Keys}
+use Rattle.prepare.specs.Prepared.{Keys}
 use Rattle.image.specs.Layout.{headerBytes, orderAt}
 use Rattle.image.specs.Image.{imageOf, fieldAt, readImage, isImage}
 use Rattle.image.proofs.Judging.{is-image-says, is-image-exactly}
 use Rattle.image.proofs.Bytes.{IsByte}
 use Rattle.image.proofs.Lengths.{image-longest}
-use Rattle.imaging.specs.Written.{writtenTo}
+use Rattle.parts.specs.Written.{writtenTo}
 use Rattle.reading.specs.Reading.{readable, intact, keysOf, blocksOf, collected}
 use Rattle.reading.specs.declared.Collected.{Collected}
 use Rattle.reading.specs.declared.Collected.the-variants as collecting

@@ -21,21 +21,6 @@ pub enum Recognized {
     Other,
 }
 
-// Whether two lists of bytes are equal.
-fn same_bytes(left: &[u8], right: &[u8]) -> bool
-    ensures { λ r. ⌜ r ≡ same (now (left .entry)) (now (right .entry)) ⌝ }
-{
-    if left.len() != right.len() {
-        return false;
-    }
-    for i in 0..left.len() {
-        if left[i] != right[i] {
-            return false;
-        }
-    }
-    true
-}
-
 // Recognize an image, with lists to work in; where it is one, its keys, rising, are then at the start of `keys`. What the other lists
 // then hold is left open.
 fn recognize_in(
@@ -68,7 +53,7 @@ fn recognize_in(
     if size != image.len() {
         return Recognized::Other;
     }
-    if !same_bytes(image, copy) {
+    if !equal::same_bytes(image, copy) {
         return Recognized::Other;
     }
     Recognized::Image(n)

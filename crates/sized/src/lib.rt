@@ -4,7 +4,7 @@ ghost use Prim.Native.Nat.{_<_, _≤_};
 ghost use lib.ListN.{length};
 ghost use Rattle.table.specs.Layout.{mostSlots, tableWords};
 ghost use Rattle.table.specs.Table.{fresh};
-ghost use Rattle.assemble.specs.Assemble.{Keys};
+ghost use Rattle.prepare.specs.Prepared.{Keys};
 
 // Write the table of the order and the keys, in lists that are at least as long as it has slots.
 fn write_within(

@@ -7,7 +7,8 @@ use Prim.Native.Nat.{ℕ, _+_}
 use lib.ListN.{length}
 use borrow.Author.Tests.{eq-eqb, ne-eqb}
 use Rattle.table.specs.Table.{contentsOf}
-use Rattle.judge.specs.Judge.{slotsFor, isSound}
+use Rattle.limits.specs.Lengths.{slotsFor}
+use Rattle.judge.specs.Judge.{isSound}
 use Rattle.seek.specs.Seek.{leastWithin}
 use Rattle.replies.specs.Replies.{steppedOf}
 use Rattle.replies.specs.declared.Refusal.{Refusal}

@@ -13,7 +13,8 @@ use Rattle.lists.proofs.Tests.{by-test, lies-when}
 use Rattle.lists.proofs.Keep.{all-map, keep-all}
 use Rattle.table.specs.Contents.{IsKey, Valid}
 use Rattle.table.proofs.Soundness.{WordSized, sound-valid}
-use Rattle.judge.specs.Judge.{slotsFor, isSound}
+use Rattle.limits.specs.Lengths.{slotsFor}
+use Rattle.judge.specs.Judge.{isSound}
 use Rattle.judge.proofs.Decides.{some-slots, passed-with}
 use Rattle.ranges.specs.Ranges.{within}
 use Rattle.replies.specs.Replies.{Reply}

@@ -88,7 +88,7 @@ pub fn step_at(table: &[u64], next: u64, high: u64, done: bool) -> Moved
     ensures { λ r. ⌜ r .place ≡ stepPlace (now (table .entry)) (placeOf next high done) ⌝ }
 {
     let place = Place { next, high, done };
-    let many = judge::slots_for(table.len());
+    let many = limits::slots_for(table.len());
     if many == 0 {
         return refused(Refusal::WrongLength, place);
     }

@@ -4,8 +4,8 @@ ghost use Prim.Native.Nat.{_≤_};
 ghost use lib.ListN.{length};
 ghost use Rattle.priority.specs.Priority.{priorityOf};
 ghost use Rattle.treap.specs.Image.{image};
-ghost use Rattle.assemble.specs.Assemble.{Keys};
-ghost use Rattle.imaging.specs.Written.{writtenTo};
+ghost use Rattle.prepare.specs.Prepared.{Keys};
+ghost use Rattle.parts.specs.Written.{writtenTo};
 
 // The image of up to 64 keys.
 fn write_small(order: u64, keys: &[u64], output: &mut [u8]) -> usize

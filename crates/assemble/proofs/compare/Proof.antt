@@ -9,13 +9,14 @@ use Rattle.priority.specs.Priority.{priorityOf}
 use Rattle.columns.specs.Positions.{weightAt}
 use Rattle.table.specs.Contents.{Contents}
 use Rattle.table.specs.Table.{fresh}
-use Rattle.assemble.proofs.Preparing.{linked, slots-low, root-low, prepared-words}
+use Rattle.prepare.proofs.Preparing.{root-low}
+use Rattle.assemble.proofs.Linking.{linked, slots-low, prepared-words}
 use borrow.Author.Needs.{needs}
 use Rattle.assemble.proofs.compare.Statement.{statement}
 use Rattle.assemble.proofs.compare.Tie as tie
 use Rattle.assemble.proofs.compare.Reads as reads
 use Rattle.assemble.proofs.compare.Lts as lts
-use Rattle.assemble.proofs.prepare.Reads as prepare-reads
+use Rattle.prepare.proofs.prepare.Reads as prepare-reads
 use Rattle.encode.proofs.matches.Reads as matches-reads
 
 prepare-requires : tie.Need-prepare-requires

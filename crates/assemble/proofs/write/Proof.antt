@@ -8,13 +8,14 @@ use Rattle.priority.specs.Priority.{priorityOf}
 use Rattle.columns.specs.Positions.{weightAt}
 use Rattle.table.specs.Contents.{Contents}
 use Rattle.table.specs.Table.{fresh}
-use Rattle.assemble.proofs.Preparing.{linked, slots-low, root-low, prepared-words}
+use Rattle.prepare.proofs.Preparing.{root-low}
+use Rattle.assemble.proofs.Linking.{linked, slots-low, prepared-words}
 use borrow.Author.Needs.{needs}
 use Rattle.assemble.proofs.write.Statement.{statement}
 use Rattle.assemble.proofs.write.Tie as tie
 use Rattle.assemble.proofs.write.Reads as reads
 use Rattle.assemble.proofs.write.Lts as lts
-use Rattle.assemble.proofs.prepare.Reads as prepare-reads
+use Rattle.prepare.proofs.prepare.Reads as prepare-reads
 use Rattle.encode.proofs.emit.Reads as emit-reads
 
 prepare-requires : tie.Need-prepare-requires

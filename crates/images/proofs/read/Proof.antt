@@ -4,7 +4,7 @@ use Prim.Native.Nat.{_<_, _≤_}
 use native.Mathlib.Omega.{arith}
 use lib.ListN.{length}
 use Rattle.table.specs.Layout.{mostSlots, tableWords}
-use Rattle.judge.proofs.Lengths.{slots-for-some}
+use Rattle.limits.proofs.Lengths.{slots-for-some}
 use Rattle.images.proofs.Reading.{refused-length}
 use borrow.Author.Needs.{needs}
 use Rattle.images.proofs.read.Statement.{statement}
@@ -13,7 +13,7 @@ use Rattle.images.proofs.read.Reads as reads
 use Rattle.images.proofs.read.Lts as lts
 use Rattle.images.proofs.read_few.Reads as read-few-reads
 use Rattle.images.proofs.read_many.Reads as read-many-reads
-use Rattle.judge.proofs.slots_for.Reads as slots-for-reads
+use Rattle.limits.proofs.slots_for.Reads as slots-for-reads
 
 slots-for-requires : tie.Need-slots-for-requires
 slots-for-requires c κs = search needs

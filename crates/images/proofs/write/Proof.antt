@@ -2,7 +2,7 @@
 use mathlib.Core.Path.{sym, _∙_}
 use native.Mathlib.Omega.{arith}
 use lib.ListN.{length}
-use Rattle.judge.proofs.Lengths.{slots-for-some}
+use Rattle.limits.proofs.Lengths.{slots-for-some}
 use Rattle.images.proofs.Imaging.{refused-length}
 use borrow.Author.Needs.{needs}
 use Rattle.images.proofs.write.Statement.{statement}
@@ -11,7 +11,7 @@ use Rattle.images.proofs.write.Reads as reads
 use Rattle.images.proofs.write.Lts as lts
 use Rattle.images.proofs.write_few.Reads as write-few-reads
 use Rattle.images.proofs.write_many.Reads as write-many-reads
-use Rattle.judge.proofs.slots_for.Reads as slots-for-reads
+use Rattle.limits.proofs.slots_for.Reads as slots-for-reads
 
 slots-for-requires : tie.Need-slots-for-requires
 slots-for-requires c κs = search needs

@@ -5,7 +5,7 @@ use Prim.Native.Nat.{ℕ, _≤_}
 use native.Mathlib.Omega.{arith}
 use lib.ListN.{length, take}
 use lib.Seq.{length-take-le}
-use Rattle.judge.proofs.Verdicts.{told-false}
+use Rattle.examine.proofs.Verdicts.{told-false}
 use Rattle.calls.proofs.Examined.{Examined, examined, examined-writable}
 use Rattle.images.proofs.Imaging.{refused-table, refused-short, accepted}
 use borrow.Author.Needs.{needs}

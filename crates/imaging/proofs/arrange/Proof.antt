@@ -8,16 +8,16 @@ use Rattle.priority.specs.Priority.{priorityOf}
 use Rattle.sorting.specs.ByWeight.{byWeight}
 use Rattle.sorting.proofs.ByWeight.{byWeight-length}
 use Rattle.columns.specs.Positions.{InOrder}
-use Rattle.assemble.proofs.Preparing.{room, many-weights, ranking-in-order}
+use Rattle.prepare.proofs.Preparing.{room, many-weights, ranking-in-order}
 use Rattle.imaging.proofs.Arranging.{ranked, filled-from, root-from, arranged-from}
 use borrow.Author.Needs.{needs}
 use Rattle.imaging.proofs.arrange.Statement.{statement}
 use Rattle.imaging.proofs.arrange.Tie as tie
 use Rattle.imaging.proofs.arrange.Reads as reads
 use Rattle.imaging.proofs.arrange.Lts as lts
-use Rattle.assemble.proofs.fill.Reads as fill-reads
-use Rattle.assemble.proofs.prioritize.Reads as prioritize-reads
-use Rattle.imaging.proofs.names.weigh.Reads as weigh-reads
+use Rattle.prepare.proofs.fill.Reads as fill-reads
+use Rattle.prepare.proofs.prioritize.Reads as prioritize-reads
+use Rattle.naming.proofs.names.weigh.Reads as weigh-reads
 use Rattle.sorting.proofs.by_weight.Reads as by-weight-reads
 
 prioritize-requires : tie.Need-prioritize-requires

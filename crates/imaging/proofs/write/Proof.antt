@@ -2,7 +2,7 @@
 use mathlib.Core.Path.{sym, ap, _∙_}
 use native.Mathlib.Omega.{arith}
 use lib.ListN.{length}
-use Rattle.imaging.specs.Written.{writtenTo}
+use Rattle.parts.specs.Written.{writtenTo}
 use Rattle.imaging.proofs.Arranging.{ranked, listed, as-many-weights, as-many-sorted, sorted-within}
 use Rattle.imaging.proofs.Connected.{arranged-image}
 use borrow.Author.Needs.{needs}
@@ -11,7 +11,7 @@ use Rattle.imaging.proofs.write.Tie as tie
 use Rattle.imaging.proofs.write.Reads as reads
 use Rattle.imaging.proofs.write.Lts as lts
 use Rattle.imaging.proofs.arrange.Reads as arrange-reads
-use Rattle.imaging.proofs.emit.Reads as emit-reads
+use Rattle.parts.proofs.emit.Reads as emit-reads
 
 arrange-requires : tie.Need-arrange-requires
 arrange-requires c κs = search needs

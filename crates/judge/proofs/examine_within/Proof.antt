@@ -6,7 +6,7 @@ use Rattle.judge.proofs.examine_within.Statement.{statement}
 use Rattle.judge.proofs.examine_within.Tie as tie
 use Rattle.judge.proofs.examine_within.Reads as reads
 use Rattle.judge.proofs.examine_within.Lts as lts
-use Rattle.judge.proofs.examine.Reads as examine-reads
+use Rattle.examine.proofs.examine.Reads as examine-reads
 
 slice-relend-prefix-examine : tie.Need-slice-relend-prefix-examine
 slice-relend-prefix-examine c = search needs

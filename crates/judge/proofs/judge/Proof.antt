@@ -1,15 +1,16 @@
 -- `judge::judge` meets its contract. Assumes nothing.
 use mathlib.Core.Path.{sym, _∙_}
 use lib.ListN.{length}
-use Rattle.judge.proofs.Lengths.{slots-for-some}
-use Rattle.judge.proofs.Verdicts.{decided-with, told-true, told-false, no-slots}
+use Rattle.limits.proofs.Lengths.{slots-for-some}
+use Rattle.examine.proofs.Verdicts.{told-true, told-false}
+use Rattle.judge.proofs.Decides.{decided-with, no-slots}
 use borrow.Author.Needs.{needs}
 use Rattle.judge.proofs.judge.Statement.{statement}
 use Rattle.judge.proofs.judge.Tie as tie
 use Rattle.judge.proofs.judge.Reads as reads
 use Rattle.judge.proofs.judge.Lts as lts
 use Rattle.judge.proofs.decide.Reads as decide-reads
-use Rattle.judge.proofs.slots_for.Reads as slots-for-reads
+use Rattle.limits.proofs.slots_for.Reads as slots-for-reads
 
 slots-for-requires : tie.Need-slots-for-requires
 slots-for-requires c κs = search needs
@@ -34,7 +35,7 @@ returns-2 c =
     let else = c .before .before .before in
     let many = else .before .slots-for in
     let words = else .before .before .before .args .table .now in
-    sym (decided-with (many .result) words (sym (many .ensures)) (else .if1 .left)
+    sym (decided-with words (many .result) (sym (many .ensures)) (else .if1 .left)
     ∙ told-true (many .result) words (c .enum-told .given .0 .0) (sym (c .before .before .decide .ensures) ∙ c .enum-told .given .1))
 
 returns-3 : tie.Need-returns-3
@@ -42,7 +43,7 @@ returns-3 c =
     let else = c .before .before .before in
     let many = else .before .slots-for in
     let words = else .before .before .before .args .table .now in
-    sym (decided-with (many .result) words (sym (many .ensures)) (else .if1 .left)
+    sym (decided-with words (many .result) (sym (many .ensures)) (else .if1 .left)
     ∙ told-false (many .result) words (sym (c .before .before .decide .ensures) ∙ c .enum-told2 .given .1))
 
 pub judge-spec : {M : Type 1} → statement M

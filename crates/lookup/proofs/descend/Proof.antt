@@ -10,10 +10,10 @@ use Rattle.structure.proofs.Shape.{size}
 use Rattle.table.specs.Contents.{Valid}
 use Rattle.table.specs.Table.{contentsOf}
 use Rattle.table.proofs.Soundness.{WordSized, sound-valid, shown-fit}
-use Rattle.lookup.specs.Steps.{InSlot}
+use Rattle.entries.specs.Steps.{InSlot}
 use Rattle.lookup.specs.declared.Looked.the-variants.{Held}
-use Rattle.lookup.proofs.Answers.{key-in-slot}
-use Rattle.lookup.proofs.Fields.{root-is}
+use Rattle.entries.proofs.Answers.{key-in-slot}
+use Rattle.entries.proofs.Fields.{root-is}
 use Rattle.lookup.proofs.Changes.{Counted}
 use Rattle.lookup.proofs.WayDown.{rest, Searching, none-held, root-held, starts, at-held, room, found, smaller, goes-on, absent}
 use Rattle.lookup.proofs.descend.Statement.{statement}

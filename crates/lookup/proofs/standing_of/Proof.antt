@@ -1,5 +1,5 @@
 -- `lookup::standing_of` meets its contract. Assumes nothing.
-use Rattle.lookup.proofs.Fields.{standing-is}
+use Rattle.lookup.proofs.Standings.{standing-is}
 use borrow.Author.Needs.{needs}
 use Rattle.lookup.proofs.standing_of.Statement.{statement}
 use Rattle.lookup.proofs.standing_of.Tie as tie

@@ -15,8 +15,8 @@ use Rattle.priority.specs.Priority.{priorityOf}
 use Rattle.treap.specs.Image.{image}
 use Rattle.table.specs.Layout.{mostSlots, leastOrder, greatestOrder}
 use Rattle.table.specs.Contents.{risingKeys}
-use Rattle.assemble.specs.Assemble.{Keys}
-use Rattle.imaging.specs.Written.{writtenTo}
+use Rattle.prepare.specs.Prepared.{Keys}
+use Rattle.parts.specs.Written.{writtenTo}
 use Rattle.image.specs.Layout.{headerBytes}
 use Rattle.image.specs.Image.{imageOf, readImage, isImage}
 use Rattle.image.proofs.Bytes.{IsByte}
@@ -33,7 +33,7 @@ use Rattle.decode.proofs.sort_keys.Reads as sort-keys-reads
 use Rattle.fields.proofs.get.Reads as get-reads
 use Rattle.ranges.proofs.is_within.Reads as is-within-reads
 use Rattle.reading.proofs.collect.Reads as collect-reads
-use Rattle.recognize.proofs.same_bytes.Reads as same-bytes-reads
+use Rattle.equal.proofs.same_bytes.Reads as same-bytes-reads
 use Rattle.writer.proofs.write.Reads as write-reads
 
 -- ---- the bytes and the lists lent

@@ -7,8 +7,9 @@ use native.Mathlib.Omega.{arith}
 use lib.ListN.{length}
 use borrow.Author.Tests.{not-true, not-false}
 use Rattle.table.specs.Table.{contentsOf}
-use Rattle.judge.specs.Judge.{slotsFor, isSound}
-use Rattle.judge.proofs.Lengths.{slots-for-some}
+use Rattle.limits.specs.Lengths.{slotsFor}
+use Rattle.judge.specs.Judge.{isSound}
+use Rattle.limits.proofs.Lengths.{slots-for-some}
 use Rattle.seek.specs.Seek.{leastWithin}
 use Rattle.steps.proofs.Moving.{refused-length, refused-table, was-done, at-the-end, at-a-key}
 use borrow.Author.Needs.{needs}
@@ -17,7 +18,7 @@ use Rattle.steps.proofs.step_at.Tie as tie
 use Rattle.steps.proofs.step_at.Reads as reads
 use Rattle.steps.proofs.step_at.Lts as lts
 use Rattle.judge.proofs.judge.Reads as judge-reads
-use Rattle.judge.proofs.slots_for.Reads as slots-for-reads
+use Rattle.limits.proofs.slots_for.Reads as slots-for-reads
 use Rattle.seek.proofs.least_within.Reads as least-within-reads
 use Rattle.steps.proofs.place_after.Reads as place-after-reads
 use Rattle.steps.proofs.refused.Reads as refused-reads

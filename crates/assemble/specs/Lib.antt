@@ -1,2 +1,0 @@
--- What the parts of assembling a table hand to each other.
-pub mod Assemble

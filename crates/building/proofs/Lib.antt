@@ -1,0 +1,4 @@
+-- Laws of set-up and build, one subject a file.
+pub mod Blank
+pub mod SettingUp
+pub mod Building

@@ -1,0 +1,2 @@
+-- Laws of delete.
+pub mod Deleting

@@ -1,0 +1,3 @@
+-- Laws of the entries of a sound table, one subject a file.
+pub mod Answers
+pub mod Fields

@@ -1,0 +1,2 @@
+-- A key in its slot.
+pub mod Steps

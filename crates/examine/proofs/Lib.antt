@@ -1,0 +1,2 @@
+-- Laws of examining.
+pub mod Verdicts

@@ -1,0 +1,2 @@
+-- Examining a table.
+pub mod Examine

@@ -1,0 +1,2 @@
+-- Laws of a range.
+pub mod Ranging

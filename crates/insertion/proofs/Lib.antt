@@ -1,0 +1,2 @@
+-- Laws of insert.
+pub mod Inserting

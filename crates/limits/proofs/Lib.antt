@@ -1,0 +1,2 @@
+-- Laws of the limits of tables.
+pub mod Lengths

@@ -1,0 +1,2 @@
+-- The definitions that the contracts of `links` cite.
+pub mod Links

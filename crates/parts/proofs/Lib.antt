@@ -1,0 +1,5 @@
+-- Lemmas of writing the parts of an image over plain lists.
+pub mod Nodes
+pub mod Passing
+pub mod Whole
+pub mod Room

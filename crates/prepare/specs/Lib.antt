@@ -1,0 +1,2 @@
+-- What a table or an image is made from.
+pub mod Prepared

@@ -1,0 +1,2 @@
+-- Laws of looking up.
+pub mod LookingUp

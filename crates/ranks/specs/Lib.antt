@@ -1,0 +1,2 @@
+-- The definitions that the contracts of `ranks` cite.
+pub mod Steps
