@@ -199,3 +199,56 @@ fn stepped(reply: sys::Stepped) -> (Reply, Option<Place>) {
     let refusal = reply.refusal;
     (Reply { refusal, numbers }, Some(place))
 }
+
+#[cfg(test)]
+mod tests {
+    use super::*;
+
+    const GUARDED: [u64; 3] = [1, 2, 3];
+
+    #[test]
+    fn a_write_within_the_content_leaves_the_guards() {
+        let mut memory = Guarded::new(&GUARDED);
+        let (start, length) = memory.lend(Empty::Address);
+        assert_eq!(length, 3);
+        // SAFETY: within the memory, as in the tests below.
+        unsafe { *start.add(2) = 9 };
+        assert!(memory.guards_hold());
+        assert_eq!(memory.content(), [1, 2, 9]);
+    }
+
+    #[test]
+    fn a_write_on_either_side_shows() {
+        for offset in [-24, -1, 3, 26] {
+            let mut memory = Guarded::new(&GUARDED);
+            let (start, _) = memory.lend(Empty::Address);
+            unsafe { *start.offset(offset) ^= 1 };
+            assert!(!memory.guards_hold(), "{offset}");
+        }
+    }
+
+    #[test]
+    fn a_write_beside_or_into_what_is_only_read_is_named() {
+        let image = vec![1, 2, 3];
+        let call = Call::List { image, room: 4 };
+        let mut lent = Lent::new(&call, &[]);
+        assert_eq!(lent.stray(&call), [""; 0]);
+        let (bytes, room) = lent.bytes.lend(Empty::Address);
+        let (image, _) = lent.image.lend(Empty::Address);
+        unsafe {
+            *bytes.add(room) ^= 1;
+            *image ^= 1;
+        }
+        assert_eq!(
+            lent.stray(&call),
+            ["beside the output bytes", "in the image"]
+        );
+    }
+
+    #[test]
+    fn nothing_has_an_address_or_none() {
+        let mut memory = Guarded::<u8>::new(&[]);
+        assert!(!memory.lend(Empty::Address).0.is_null());
+        assert!(memory.lend(Empty::Null).0.is_null());
+    }
+}

@@ -106,16 +106,29 @@ impl Case<'_> {
         self.trace(&call);
         let archive = run_archive(&call, &self.table, self.empty);
         let (second, mut faults) = self.second(&call);
-        let before = Outcome::untouched(&call, &self.table);
-        faults.extend(differences(&archive, &second));
-        faults.extend(refusal_faults(&before, &archive));
         faults.extend(complaint(&archive));
-        self.tally.calls += 1;
-        if !faults.is_empty() {
-            self.report(&call, &archive, &second, &faults);
-        }
+        self.judge(&call, &archive, &second, faults);
         self.table.clone_from(&second.table);
         second
+    }
+
+    /// Counts a call that was made on the table with these two outcomes, and
+    /// reports it if they differ, if one is wrong in itself, or if there are
+    /// faults already.
+    pub fn judge(
+        &mut self,
+        call: &Call,
+        archive: &Outcome,
+        second: &Outcome,
+        mut faults: Vec<String>,
+    ) {
+        let before = Outcome::untouched(call, &self.table);
+        faults.extend(differences(archive, second));
+        faults.extend(refusal_faults(&before, archive));
+        self.tally.calls += 1;
+        if !faults.is_empty() {
+            self.report(call, archive, second, &faults);
+        }
     }
 
     /// The second program's outcome. That it gave up is a fault too.

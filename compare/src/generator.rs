@@ -5,7 +5,6 @@ use crate::call::{Call, Place};
 use crate::outcome::Outcome;
 use crate::random::Random;
 use crate::tables::{image_of, keys_in, listing_length};
-use reference::MOST_SLOTS;
 
 /// How many of a hundred calls are of each kind.
 const SHARES: [(usize, Kind); 10] = [
@@ -167,7 +166,7 @@ impl Generator {
     }
 
     fn list_image(&self, random: &mut Random) -> Call {
-        let number = random.fill(self.slots.min(MOST_SLOTS - 1));
+        let number = random.fill(self.slots);
         let (order, keys) = (random.order(), random.keys(number));
         let mut image = image_of(order, &keys);
         let room = room(listing_length(order, &keys), random);

@@ -21,15 +21,7 @@ pub struct Total {
     pub failed: u64,
 }
 
-impl Total {
-    fn add(&mut self, tally: &Tally) {
-        self.passed += tally.calls - tally.failed;
-        self.failed += tally.failed;
-    }
-}
-
-/// Runs what the options name. Says whether nothing failed and, in the default
-/// run, enough was compared.
+/// Runs what the options name; gives the total and whether it is good.
 pub fn run(options: &Options) -> Result<(Total, bool), String> {
     let plan = Plan {
         seed: options.seed,
@@ -44,10 +36,14 @@ pub fn run(options: &Options) -> Result<(Total, bool), String> {
         (None, Some(_)) => soak(plan, options.threads),
         (Some(_), Some(_)) => return Err("a soak has its own sections".to_string()),
     };
-    let is_default = options.section.is_none() && options.soak.is_none();
-    let enough =
-        !is_default || options.case.is_some() || total.passed + total.failed >= FEWEST_CALLS;
-    Ok((total, total.failed == 0 && enough))
+    let is_default = options.section.is_none() && options.soak.is_none() && options.case.is_none();
+    Ok((total, is_good(total, is_default)))
+}
+
+/// Nothing failed and, in the default run, enough was compared.
+pub fn is_good(total: Total, is_default: bool) -> bool {
+    let enough = !is_default || total.passed >= FEWEST_CALLS;
+    total.failed == 0 && enough
 }
 
 fn one_section(name: &str, plan: Plan) -> Result<Total, String> {
@@ -77,14 +73,15 @@ fn soak(plan: Plan, threads: usize) -> Total {
     })
 }
 
-/// Runs the jobs, as many at a time as there are threads.
+/// Runs the jobs, as many at a time as there are threads, and prints a line for
+/// each section.
 fn in_threads(
     threads: usize,
     jobs: usize,
     job: impl Fn(usize) -> (&'static Section, Plan) + Sync,
 ) -> Total {
     let next = AtomicUsize::new(0);
-    let total = Mutex::new(Total::default());
+    let tallies = Mutex::new(vec![]);
     let work = || loop {
         let i = next.fetch_add(1, Ordering::Relaxed);
         if i >= jobs {
@@ -95,7 +92,7 @@ fn in_threads(
             return;
         }
         let tally = run_section(section, plan);
-        total.lock().expect("no thread gives up").add(&tally);
+        tallies.lock().expect("no thread gives up").push(tally);
     };
     thread::scope(|scope| {
         for _ in 0..threads {
@@ -103,21 +100,34 @@ fn in_threads(
             builder.spawn_scoped(scope, work).expect("a thread");
         }
     });
-    total.into_inner().expect("no thread gives up")
+    summary(&tallies.into_inner().expect("no thread gives up"))
 }
 
 fn run_section(section: &Section, plan: Plan) -> Tally {
-    let start = Instant::now();
     let mut tally = Tally::new(section.name, plan);
     (section.run)(&mut tally);
-    println!(
-        "section {}: {} calls, {} differences (seed {}, {} cases, {:.1} s)",
-        tally.section,
-        tally.calls,
-        tally.failed,
-        plan.seed,
-        tally.cases,
-        start.elapsed().as_secs_f64()
-    );
     tally
+}
+
+/// Prints a line for each section that was run, however often, and adds up.
+fn summary(tallies: &[Tally]) -> Total {
+    let mut total = Total::default();
+    for section in SECTIONS {
+        let of_section = tallies.iter().filter(|tally| tally.section == section.name);
+        let (mut runs, mut calls, mut failed) = (0, 0, 0);
+        for tally in of_section {
+            runs += 1;
+            calls += tally.calls;
+            failed += tally.failed;
+        }
+        if runs > 0 {
+            println!(
+                "section {}: {calls} calls, {failed} differences",
+                section.name
+            );
+        }
+        total.passed += calls - failed;
+        total.failed += failed;
+    }
+    total
 }

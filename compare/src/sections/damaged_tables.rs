@@ -23,6 +23,7 @@ fn run(tally: &mut Tally) {
         tally.case(|case| two_words(case, &table));
         tally.case(|case| whole_slots(case, &table));
         tally.case(|case| every_order(case, &table));
+        tally.case(|case| other_slots(case, &table));
     }
     for (slots, number, damages) in [
         (64, 64, 500),
@@ -120,6 +121,16 @@ fn every_order(case: &mut Case, table: &[u64]) {
         other[0] = order;
         case.table = other;
         case.call(Call::LookUp { key: 1 });
+    }
+}
+
+/// Slots fewer and empty slots more: now and then sound as well.
+fn other_slots(case: &mut Case, table: &[u64]) {
+    let slots = slots_of(table).expect("a table");
+    for number in 1..=2 * slots {
+        let mut other = table.to_vec();
+        other.resize(slot_start(number), 0);
+        each_call(case, table, &other);
     }
 }
 

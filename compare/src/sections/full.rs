@@ -37,6 +37,7 @@ fn filled(case: &mut Case, slots: usize) {
     case.refused(Call::Delete { key: held }, 0);
     case.refused(Call::Insert { key: fresh }, 0);
     case.refused(Call::Insert { key: held }, 10);
+    exercise::read(case, slots, order, &keys);
     exercise::list(case, order, &keys);
 }
 

@@ -15,7 +15,9 @@ pub const SECTION: Section = Section {
 
 fn run(tally: &mut Tally) {
     let greatest = table_length(MOST_SLOTS);
-    for length in (0..=100).chain(greatest - 15..=greatest + 15) {
+    // The last would be a table's if lengths or slots were cut to 16 bits.
+    let beyond = [8192, 65_536, 65_537, 65_536 + 7].map(table_length);
+    for length in (0..=100).chain(greatest - 15..=greatest + 15).chain(beyond) {
         tally.case(|case| each_call(case, length));
     }
     for empty in [Empty::Address, Empty::Null] {

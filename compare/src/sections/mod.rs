@@ -12,6 +12,7 @@ mod full;
 mod histories;
 mod homes;
 mod lengths;
+mod long;
 mod refusals;
 mod sets;
 mod shapes;
@@ -27,7 +28,7 @@ pub struct Section {
 }
 
 /// All sections; the longest first, so that threads finish together.
-pub const SECTIONS: [Section; 14] = [
+pub const SECTIONS: [Section; 15] = [
     histories::SECTION,
     sets::SECTION,
     chains::SECTION,
@@ -39,6 +40,7 @@ pub const SECTIONS: [Section; 14] = [
     damaged_images::SECTION,
     refusals::SECTION,
     lengths::SECTION,
+    long::SECTION,
     extremes::SECTION,
     ties::SECTION,
     examples::SECTION,

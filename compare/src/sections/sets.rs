@@ -11,8 +11,8 @@ pub const SECTION: Section = Section { name: "sets", run };
 fn stride(slots: usize) -> usize {
     match slots {
         0..=64 => 1,
-        65..=1000 => 18,
-        _ => 63,
+        65..=1000 => 9,
+        _ => 36,
     }
 }
 
