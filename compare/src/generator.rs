@@ -208,13 +208,12 @@ fn bound(held: &[u64], random: &mut Random) -> u64 {
     }
 }
 
-/// The length of an output: just enough, a little less, more, or none.
+/// The length of an output: mostly just enough, else less or more.
 pub fn room(needed: usize, random: &mut Random) -> usize {
-    match random.below(8) {
+    match random.below(10) {
         0 | 1 => needed.saturating_sub(1),
-        2 => 0,
-        3 => needed + 1 + random.below(9),
-        4 => random.below(needed + 1),
+        2 => random.below(needed + 1),
+        3 | 4 => needed + 1 + random.below(9),
         _ => needed,
     }
 }

@@ -4,7 +4,9 @@
 use super::Section;
 use crate::call::{Call, Place};
 use crate::case::{Case, Tally};
-use crate::generator::BAD_ORDERS;
+use crate::generator::{spoil_list, BAD_ORDERS};
+use crate::keys::parts;
+use crate::random::Random;
 use crate::tables::{image_of, listing_length, make_unsound, slot_start, sound_table};
 
 pub const SECTION: Section = Section {
@@ -20,6 +22,7 @@ const ORDER: u64 = 3;
 const FEW: [u64; 2] = [10, 20];
 const FULL: [u64; 3] = [10, 20, 30];
 const TOO_MANY: [u64; 4] = [10, 20, 30, 40];
+const SETS: [&[u64]; 3] = [&[], &FEW, &FULL];
 const HELD: u64 = 20;
 const ABSENT: u64 = 25;
 
@@ -105,7 +108,7 @@ const KINDS: [Kind; 10] = [
 
 fn run(tally: &mut Tally) {
     for kind in KINDS {
-        for numbers in crate::keys::parts(kind.refusals) {
+        for numbers in parts(kind.refusals) {
             tally.case(|case| {
                 for way in 0..WAYS {
                     let numbers = numbers.clone();
@@ -161,26 +164,11 @@ fn set_up(faults: &Faults) -> Call {
 }
 
 fn build(faults: &Faults) -> Call {
-    let keys = [&[], &FEW[..], &FULL];
     let mut list = faults
-        .choose(10, &TOO_MANY[..], faults.pick(&keys))
+        .choose(10, &TOO_MANY[..], faults.pick(&SETS))
         .to_vec();
     if faults.has(5) {
-        let last = list.len().saturating_sub(1);
-        match faults.way % 4 {
-            _ if list.is_empty() => list.push(0),
-            0 => list[0] = 0,
-            1 => list[last] = 0,
-            2 => list.push(list[last]),
-            _ => list.insert(0, list[0]),
-        }
-        // No more keys than slots, unless that is a fault too.
-        if !faults.has(10) {
-            list.truncate(SLOTS);
-            list[0] = u64::MAX * (faults.way as u64 % 2);
-            list.push(list[0].min(1));
-            list.truncate(SLOTS);
-        }
+        spoil_list(&mut list, &mut Random::new(faults.way as u64));
     }
     let order = order(faults);
     Call::Build { order, list }
@@ -231,16 +219,15 @@ fn write(faults: &Faults) -> Call {
 }
 
 fn image(faults: &Faults) -> Vec<u8> {
-    let keys = [&[], &FEW[..], &FULL];
-    let keys = faults.choose(10, &TOO_MANY[..], faults.pick(&keys));
+    let keys = faults.choose(10, &TOO_MANY[..], faults.pick(&SETS));
     let mut image = image_of(ORDER, keys);
     if faults.has(6) {
-        let place = faults.way * 7 % image.len();
+        let part = faults.way * 7 % image.len();
         match faults.way % 4 {
-            0 => image.truncate(place),
+            0 => image.truncate(part),
             1 => image.push(b'L'),
             2 => image[2] = faults.pick(&[2, 0, 1]),
-            _ => image[place] ^= 0x40,
+            _ => image[0] = 0,
         }
     }
     image
@@ -253,8 +240,7 @@ fn read(faults: &Faults) -> Call {
 
 fn list(faults: &Faults) -> Call {
     let image = image(faults);
-    let keys = [&[], &FEW[..], &FULL];
-    let length = listing_length(ORDER, faults.pick(&keys));
+    let length = listing_length(ORDER, faults.pick(&SETS));
     let short = faults.pick(&[length - 1, 0, 20]);
     let room = faults.choose(11, short, length + faults.way % 3);
     Call::List { image, room }
