@@ -16,6 +16,7 @@ mod long;
 mod refusals;
 mod sets;
 mod shapes;
+mod sizes;
 mod ties;
 mod universes;
 
@@ -28,12 +29,13 @@ pub struct Section {
 }
 
 /// All sections; the longest first, so that threads finish together.
-pub const SECTIONS: [Section; 15] = [
+pub const SECTIONS: [Section; 16] = [
     histories::SECTION,
     sets::SECTION,
     chains::SECTION,
     homes::SECTION,
     full::SECTION,
+    sizes::SECTION,
     shapes::SECTION,
     universes::SECTION,
     damaged_tables::SECTION,
