@@ -4,6 +4,7 @@ use super::{exercise, Section};
 use crate::call::{Call, Place};
 use crate::case::{Case, Tally};
 use crate::keys::Chain;
+use crate::tables::image_of;
 
 pub const SECTION: Section = Section {
     name: "chains",
@@ -48,4 +49,7 @@ fn long_chain(case: &mut Case, chain: Chain, number: usize, slots: usize, order:
     let room = 15 + 44 * slots;
     case.call(Call::Write { room });
     exercise::read(case, slots, order, &keys);
+    let image = image_of(order, &keys);
+    let room = 10 * image.len();
+    case.refused(Call::List { image, room }, 0);
 }

@@ -50,7 +50,7 @@ fn small_images() -> Vec<Vec<u8>> {
     ]
 }
 
-fn read_and_list(case: &mut Case, image: Vec<u8>) {
+pub fn read_and_list(case: &mut Case, image: Vec<u8>) {
     let room = 10 * image.len();
     let copy = image.clone();
     case.call(Call::Read { image: copy });

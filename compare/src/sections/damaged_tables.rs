@@ -67,7 +67,7 @@ fn one_word(case: &mut Case, table: &[u64], word: usize) {
     for new in news {
         let mut damaged = table.to_vec();
         damaged[word] = new;
-        each_call(case, table, &damaged);
+        each_call(case, &keys_in(table), &damaged);
     }
 }
 
@@ -85,7 +85,7 @@ fn two_words(case: &mut Case, table: &[u64]) {
         } else {
             damaged.swap(i, j);
         }
-        each_call(case, table, &damaged);
+        each_call(case, &keys_in(table), &damaged);
     }
 }
 
@@ -99,18 +99,18 @@ fn whole_slots(case: &mut Case, table: &[u64]) {
             for word in 0..SLOT_WORDS {
                 damaged.swap(slot_start(i) + word, slot_start(j) + word);
             }
-            each_call(case, table, &damaged);
+            each_call(case, &keys_in(table), &damaged);
             let mut damaged = table.to_vec();
             damaged.copy_within(slot_start(i)..slot_start(i + 1), slot_start(j));
-            each_call(case, table, &damaged);
+            each_call(case, &keys_in(table), &damaged);
             damaged[1] += 1;
-            each_call(case, table, &damaged);
+            each_call(case, &keys_in(table), &damaged);
         }
         let mut damaged = table.to_vec();
         damaged[slot_start(i)..slot_start(i + 1)].fill(0);
-        each_call(case, table, &damaged);
+        each_call(case, &keys_in(table), &damaged);
         damaged[1] = damaged[1].wrapping_sub(1);
-        each_call(case, table, &damaged);
+        each_call(case, &keys_in(table), &damaged);
     }
 }
 
@@ -130,14 +130,14 @@ fn other_slots(case: &mut Case, table: &[u64]) {
     for number in 1..=2 * slots {
         let mut other = table.to_vec();
         other.resize(slot_start(number), 0);
-        each_call(case, table, &other);
+        each_call(case, &keys_in(table), &other);
     }
 }
 
-/// A call of each kind on the damaged table.
-fn each_call(case: &mut Case, table: &[u64], damaged: &[u64]) {
-    let keys = keys_in(table);
-    for call in calls(&keys, &mut case.random) {
+/// A call of each kind on the damaged table; the keys are those of the table as
+/// it was.
+pub fn each_call(case: &mut Case, keys: &[u64], damaged: &[u64]) {
+    for call in calls(keys, &mut case.random) {
         case.table = damaged.to_vec();
         case.call(call);
     }

@@ -8,10 +8,12 @@ mod damaged_tables;
 mod examples;
 mod exercise;
 mod extremes;
+mod forged;
 mod full;
 mod histories;
 mod homes;
 mod lengths;
+mod listings;
 mod long;
 mod refusals;
 mod sets;
@@ -29,7 +31,7 @@ pub struct Section {
 }
 
 /// All sections; the longest first, so that threads finish together.
-pub const SECTIONS: [Section; 16] = [
+pub const SECTIONS: [Section; 18] = [
     histories::SECTION,
     sets::SECTION,
     chains::SECTION,
@@ -40,6 +42,8 @@ pub const SECTIONS: [Section; 16] = [
     universes::SECTION,
     damaged_tables::SECTION,
     damaged_images::SECTION,
+    forged::SECTION,
+    listings::SECTION,
     refusals::SECTION,
     lengths::SECTION,
     long::SECTION,
