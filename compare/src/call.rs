@@ -1,0 +1,133 @@
+//! The ten calls, each with all that it is given but the table.
+
+use reference::calls;
+use std::fmt;
+
+/// The three numbers of a place as they are handed to a step. A mark that is
+/// not zero is set.
+#[derive(Clone, Copy, Debug, PartialEq, Eq)]
+pub struct Place {
+    pub next: u64,
+    pub high: u64,
+    pub done: u64,
+}
+
+impl Place {
+    pub const WHOLE: Place = Place::of(calls::Place::WHOLE);
+    pub const SPENT: Place = Place::of(calls::Place::SPENT);
+
+    pub const fn new(low: u64, high: u64) -> Place {
+        Place::of(calls::Place::new(low, high))
+    }
+
+    pub const fn of(place: calls::Place) -> Place {
+        Place {
+            next: place.next,
+            high: place.high,
+            done: place.done as u64,
+        }
+    }
+}
+
+/// A call. `room` is the length of the output that it is lent.
+#[derive(Clone, PartialEq, Eq)]
+pub enum Call {
+    SetUp { order: u64 },
+    Build { order: u64, list: Vec<u64> },
+    Insert { key: u64 },
+    Delete { key: u64 },
+    LookUp { key: u64 },
+    Range { low: u64, high: u64, room: usize },
+    Step { place: Place },
+    Write { room: usize },
+    Read { image: Vec<u8> },
+    List { image: Vec<u8>, room: usize },
+}
+
+impl Call {
+    /// The keys that the call is lent to read.
+    pub fn list(&self) -> &[u64] {
+        match self {
+            Call::Build { list, .. } => list,
+            _ => &[],
+        }
+    }
+
+    /// The bytes that the call is lent to read.
+    pub fn image(&self) -> &[u8] {
+        match self {
+            Call::Read { image } | Call::List { image, .. } => image,
+            _ => &[],
+        }
+    }
+
+    /// The output words as they are lent: no two of them alike, so that a word
+    /// written past the end or in the wrong place shows.
+    pub fn output_words(&self) -> Vec<u64> {
+        let room = match self {
+            Call::Range { room, .. } => *room,
+            _ => 0,
+        };
+        let word = |i: usize| 0xA5C3_96F0_0F69_3C5A ^ (i as u64).wrapping_mul(0x9E37_79B9);
+        (0..room).map(word).collect()
+    }
+
+    /// The output bytes as they are lent; neighbours differ.
+    pub fn output_bytes(&self) -> Vec<u8> {
+        let room = match self {
+            Call::Write { room } | Call::List { room, .. } => *room,
+            _ => 0,
+        };
+        (0..room).map(|i| (i * 101 + 0xA5) as u8).collect()
+    }
+
+    /// The place that the call is lent.
+    pub fn place(&self) -> Option<Place> {
+        match self {
+            Call::Step { place } => Some(*place),
+            _ => None,
+        }
+    }
+}
+
+/// The call in one line, long lists cut short.
+impl fmt::Debug for Call {
+    fn fmt(&self, out: &mut fmt::Formatter) -> fmt::Result {
+        match self {
+            Call::SetUp { order } => write!(out, "set-up, order {order}"),
+            Call::Build { order, list } => {
+                write!(out, "build, order {order}, list {}", short(list))
+            }
+            Call::Insert { key } => write!(out, "insert {key}"),
+            Call::Delete { key } => write!(out, "delete {key}"),
+            Call::LookUp { key } => write!(out, "look-up {key}"),
+            Call::Range { low, high, room } => {
+                write!(out, "range {low} to {high} into {room} words")
+            }
+            Call::Step { place } => write!(out, "step, {place:?}"),
+            Call::Write { room } => write!(out, "write into {room} bytes"),
+            Call::Read { image } => write!(out, "read {}", short_bytes(image)),
+            Call::List { image, room } => {
+                write!(out, "list {} into {room} bytes", short_bytes(image))
+            }
+        }
+    }
+}
+
+/// Numbers up to some length, then how many there are.
+pub fn short(numbers: &[u64]) -> String {
+    const SHOWN: usize = 40;
+    match numbers.get(..SHOWN) {
+        None => format!("{numbers:?}"),
+        Some(first) => format!("{first:?} .. {} in all", numbers.len()),
+    }
+}
+
+fn short_bytes(bytes: &[u8]) -> String {
+    const SHOWN: usize = 400;
+    let hex = |part: &[u8]| part.iter().map(|b| format!("{b:02X}")).collect::<String>();
+    match bytes.get(..SHOWN) {
+        None => format!("<{}>", hex(bytes)),
+        Some(first) => format!("<{} .. {} bytes in all>", hex(first), bytes.len()),
+    }
+}

@@ -1,0 +1,90 @@
+//! Keys searched out for the places and priorities that they have.
+
+use reference::priority::{priority, Entry};
+
+/// Rising keys that outrank each other as told: `places[i]` is the place of the
+/// i-th in the order of outranking, 0 for the one that outranks the rest. The
+/// range of priorities is cut into as many bands, and each key is the next
+/// whose priority is in its band.
+pub fn keys_outranking(places: &[usize]) -> Vec<u64> {
+    let band_width = u64::MAX / places.len().max(1) as u64;
+    let mut keys = vec![];
+    let mut key = 0;
+    for place in places {
+        let low = band_width * (places.len() - 1 - place) as u64;
+        let in_band = |key: &u64| (low..low + band_width).contains(&priority(*key));
+        key = (key + 1..).find(in_band).expect("keys are many");
+        keys.push(key);
+    }
+    keys
+}
+
+/// Which way each key of a chain lies from the one above it.
+#[derive(Clone, Copy, Debug, PartialEq, Eq)]
+pub enum Chain {
+    Right,
+    Left,
+    ToAndFro,
+}
+
+impl Chain {
+    pub const ALL: [Chain; 3] = [Chain::Right, Chain::Left, Chain::ToAndFro];
+
+    /// Rising keys whose treap is this chain.
+    pub fn keys(self, number: usize) -> Vec<u64> {
+        let place = |i: usize| match self {
+            Chain::Right => i,
+            Chain::Left => number - 1 - i,
+            // From outside in: least, greatest, least but one, ..
+            Chain::ToAndFro if 2 * i < number => 2 * i,
+            Chain::ToAndFro => 2 * (number - 1 - i) + 1,
+        };
+        keys_outranking(&(0..number).map(place).collect::<Vec<_>>())
+    }
+}
+
+/// The first keys after one, rising, that have the home in so many slots.
+pub fn keys_with_home(after: u64, slots: usize, home: usize, number: usize) -> Vec<u64> {
+    let has_home = |key: &u64| home_of(*key, slots) == home;
+    (after + 1..).filter(has_home).take(number).collect()
+}
+
+pub fn home_of(key: u64, slots: usize) -> usize {
+    entry(key).home(slots)
+}
+
+pub fn outranks(a: u64, b: u64) -> bool {
+    entry(a).outranks(entry(b))
+}
+
+fn entry(key: u64) -> Entry {
+    Entry {
+        key,
+        priority: priority(key),
+    }
+}
+
+/// Every order of the places 0 to `number` − 1.
+pub fn permutations(number: usize) -> Vec<Vec<usize>> {
+    if number == 0 {
+        return vec![vec![]];
+    }
+    let mut all = vec![];
+    for shorter in permutations(number - 1) {
+        for place in 0..number {
+            let mut longer = shorter.clone();
+            longer.insert(place, number - 1);
+            all.push(longer);
+        }
+    }
+    all
+}
+
+/// Every part of a list, in the list's order.
+pub fn parts(list: &[u64]) -> Vec<Vec<u64>> {
+    let part = |bits: usize| {
+        let chosen = list.iter().enumerate().filter(|(i, _)| bits >> i & 1 == 1);
+        chosen.map(|(_, &key)| key).collect()
+    };
+    (0..1 << list.len()).map(part).collect()
+}

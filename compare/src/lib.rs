@@ -1,0 +1,15 @@
+//! Runs the archive and the second program on the same inputs and compares
+//! all that a call answers and all the memory that it was lent.
+
+pub mod archive;
+pub mod call;
+pub mod case;
+pub mod generator;
+pub mod keys;
+pub mod options;
+pub mod outcome;
+pub mod random;
+pub mod run;
+pub mod second_program;
+pub mod sections;
+pub mod tables;

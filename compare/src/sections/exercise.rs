@@ -1,0 +1,102 @@
+//! Series of calls that several sections make on a table.
+
+use crate::call::{Call, Place};
+use crate::case::Case;
+use crate::tables::{image_of, keys_in, listing_length, table_length};
+
+/// Lends words that are no table's.
+pub fn lend_rubbish(case: &mut Case, slots: usize) {
+    let words = (0..table_length(slots)).map(|_| case.random.number());
+    case.table = words.collect();
+}
+
+/// Builds over rubbish; with more keys than slots that is refused.
+pub fn build(case: &mut Case, slots: usize, order: u64, keys: &[u64]) {
+    lend_rubbish(case, slots);
+    let list = keys.to_vec();
+    let refusal = if keys.len() > slots { 10 } else { 0 };
+    case.refused(Call::Build { order, list }, refusal);
+}
+
+/// Writes the table's image into an output that is just long enough, too short
+/// and too long.
+pub fn write(case: &mut Case) {
+    let length = image_of(case.table[0], &keys_in(&case.table)).len();
+    case.refused(Call::Write { room: length }, 0);
+    case.refused(Call::Write { room: length - 1 }, 11);
+    case.refused(Call::Write { room: length + 7 }, 0);
+}
+
+/// Reads the image of an order and a set over rubbish; the table that was lent
+/// before is lent again afterwards.
+pub fn read(case: &mut Case, slots: usize, order: u64, keys: &[u64]) {
+    let before = case.table.clone();
+    lend_rubbish(case, slots);
+    let image = image_of(order, keys);
+    let refusal = if keys.len() > slots { 10 } else { 0 };
+    case.refused(Call::Read { image }, refusal);
+    case.table = before;
+}
+
+/// Lists the image into outputs of three lengths.
+pub fn list(case: &mut Case, order: u64, keys: &[u64]) {
+    let image = image_of(order, keys);
+    let length = listing_length(order, keys);
+    for (room, refusal) in [(length, 0), (length - 1, 11), (length + 5, 0)] {
+        let image = image.clone();
+        case.refused(Call::List { image, room }, refusal);
+    }
+}
+
+/// The whole range into outputs of three lengths.
+pub fn whole_range(case: &mut Case) {
+    let number = keys_in(&case.table).len();
+    for room in [number, number + 3, number.saturating_sub(1)] {
+        let (low, high) = (0, u64::MAX);
+        let refusal = if room < number { 11 } else { 0 };
+        case.refused(Call::Range { low, high, room }, refusal);
+    }
+}
+
+/// Looks each of the keys up.
+pub fn look_up(case: &mut Case, keys: &[u64]) {
+    for &key in keys {
+        case.call(Call::LookUp { key });
+    }
+}
+
+/// Steps until the end has been answered twice, or so many times.
+pub fn steps(case: &mut Case, from: Place, most: usize) {
+    let mut place = from;
+    let mut ends = 0;
+    for _ in 0..most {
+        let outcome = case.call(Call::Step { place });
+        place = outcome.place.expect("a step has a place");
+        if outcome.reply.numbers[0].1 == 0 {
+            ends += 1;
+        }
+        if ends == 2 {
+            return;
+        }
+    }
+}
+
+/// Deletes each of the keys and inserts it again, from the first to the last.
+pub fn take_out_and_put_back(case: &mut Case, keys: &[u64]) {
+    for &key in keys {
+        case.refused(Call::Delete { key }, 0);
+        case.refused(Call::Insert { key }, 0);
+    }
+}
+
+/// All of the above but the last on a table built from the keys.
+pub fn everything(case: &mut Case, slots: usize, order: u64, keys: &[u64]) {
+    build(case, slots, order, keys);
+    if keys.len() <= slots {
+        write(case);
+        whole_range(case);
+        steps(case, Place::WHOLE, keys.len() + 2);
+    }
+    read(case, slots, order, keys);
+    list(case, order, keys);
+}

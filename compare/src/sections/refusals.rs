@@ -1,0 +1,264 @@
+//! Every call with every set of the faults that it can be turned down for: the
+//! lowest number is given, and 0 where there is no fault.
+
+use super::Section;
+use crate::call::{Call, Place};
+use crate::case::{Case, Tally};
+use crate::generator::{spoil_list, BAD_ORDERS};
+use crate::keys::parts;
+use crate::random::Random;
+use crate::tables::{image_of, listing_length, make_unsound, slot_start, sound_table};
+
+pub const SECTION: Section = Section {
+    name: "refusals",
+    run,
+};
+
+/// Each set of faults is arranged in so many ways.
+const WAYS: usize = 24;
+
+const SLOTS: usize = 3;
+const ORDER: u64 = 3;
+const FEW: [u64; 2] = [10, 20];
+const FULL: [u64; 3] = [10, 20, 30];
+const TOO_MANY: [u64; 4] = [10, 20, 30, 40];
+const SETS: [&[u64]; 3] = [&[], &FEW, &FULL];
+const HELD: u64 = 20;
+const ABSENT: u64 = 25;
+
+/// Faults by the numbers of their refusals, and which of the ways to arrange
+/// them.
+struct Faults {
+    numbers: Vec<u64>,
+    way: usize,
+}
+
+impl Faults {
+    fn has(&self, number: u64) -> bool {
+        self.numbers.contains(&number)
+    }
+
+    /// The lowest number that applies.
+    fn lowest(&self) -> u64 {
+        self.numbers.iter().copied().min().unwrap_or(0)
+    }
+
+    fn pick<T: Copy>(&self, from: &[T]) -> T {
+        from[self.way % from.len()]
+    }
+
+    /// The first if there is the fault, else the second.
+    fn choose<T>(&self, number: u64, with: T, without: T) -> T {
+        if self.has(number) {
+            with
+        } else {
+            without
+        }
+    }
+}
+
+/// The refusals of a call, and the call with some of them.
+struct Kind {
+    refusals: &'static [u64],
+    call: fn(&Faults) -> Call,
+}
+
+const KINDS: [Kind; 10] = [
+    Kind {
+        refusals: &[1, 2],
+        call: set_up,
+    },
+    Kind {
+        refusals: &[1, 3, 7, 8, 10],
+        call: insert,
+    },
+    Kind {
+        refusals: &[1, 3, 7, 9],
+        call: delete,
+    },
+    Kind {
+        refusals: &[1, 3, 7],
+        call: look_up,
+    },
+    Kind {
+        refusals: &[1, 4, 7, 11],
+        call: range,
+    },
+    Kind {
+        refusals: &[1, 7],
+        call: step,
+    },
+    Kind {
+        refusals: &[1, 2, 5, 10],
+        call: build,
+    },
+    Kind {
+        refusals: &[1, 7, 11],
+        call: write,
+    },
+    Kind {
+        refusals: &[1, 6, 10],
+        call: read,
+    },
+    Kind {
+        refusals: &[6, 11],
+        call: list,
+    },
+];
+
+fn run(tally: &mut Tally) {
+    for kind in KINDS {
+        for numbers in parts(kind.refusals) {
+            tally.case(|case| {
+                for way in 0..WAYS {
+                    let numbers = numbers.clone();
+                    try_faults(case, &kind, &Faults { numbers, way });
+                }
+            });
+        }
+    }
+    tally.case(marks_of_done);
+}
+
+fn try_faults(case: &mut Case, kind: &Kind, faults: &Faults) {
+    // A table with no free slot is a fault of an insert alone.
+    let full = faults.has(10) && kind.refusals.contains(&8);
+    case.table = table(faults, full);
+    case.refused((kind.call)(faults), faults.lowest());
+}
+
+fn table(faults: &Faults, full: bool) -> Vec<u64> {
+    let keys = if full { &FULL[..] } else { &FEW };
+    let mut table = sound_table(SLOTS, ORDER, keys);
+    if faults.has(7) {
+        damage(faults, &mut table);
+    }
+    if faults.has(1) {
+        let length = table.len();
+        let lengths = [length + 1, length - 1, 0, 1, 3, 8, 10, 24_585, 24_578];
+        table.resize(faults.pick(&lengths), 0);
+    }
+    table
+}
+
+fn damage(faults: &Faults, table: &mut [u64]) {
+    let last = table.len() - 1;
+    match faults.way % 6 {
+        0 => make_unsound(table),
+        1 => table[0] = 2,
+        2 => table[0] = 256,
+        3 => table[last] += 1,
+        4 => table[slot_start(0)] ^= HELD,
+        _ => table.fill(0),
+    }
+}
+
+fn order(faults: &Faults) -> u64 {
+    let good = [3, 255, 4, 128];
+    faults.choose(2, faults.pick(&BAD_ORDERS), faults.pick(&good))
+}
+
+fn set_up(faults: &Faults) -> Call {
+    let order = order(faults);
+    Call::SetUp { order }
+}
+
+fn build(faults: &Faults) -> Call {
+    let mut list = faults
+        .choose(10, &TOO_MANY[..], faults.pick(&SETS))
+        .to_vec();
+    if faults.has(5) {
+        spoil_list(&mut list, &mut Random::new(faults.way as u64));
+    }
+    let order = order(faults);
+    Call::Build { order, list }
+}
+
+fn insert(faults: &Faults) -> Call {
+    let key = faults.choose(8, HELD, ABSENT);
+    let key = faults.choose(3, 0, key);
+    Call::Insert { key }
+}
+
+fn delete(faults: &Faults) -> Call {
+    let key = faults.choose(9, ABSENT, HELD);
+    let key = faults.choose(3, 0, key);
+    Call::Delete { key }
+}
+
+fn look_up(faults: &Faults) -> Call {
+    let key = faults.choose(3, 0, faults.pick(&[HELD, ABSENT]));
+    Call::LookUp { key }
+}
+
+fn range(faults: &Faults) -> Call {
+    let rising = [(0, u64::MAX), (10, 20), (1, 20), (10, 29)];
+    let falling = [(1, 0), (20, 10), (u64::MAX, 0), (11, 10)];
+    let (low, high) = faults.choose(4, faults.pick(&falling), faults.pick(&rising));
+    let room = faults.choose(11, faults.pick(&[0, 1]), faults.pick(&[2, 3, 9]));
+    Call::Range { low, high, room }
+}
+
+fn step(faults: &Faults) -> Call {
+    let places = [
+        Place::WHOLE,
+        Place::SPENT,
+        Place::new(20, 5),
+        Place::new(20, 20),
+        Place::new(21, u64::MAX),
+    ];
+    let place = faults.pick(&places);
+    Call::Step { place }
+}
+
+fn write(faults: &Faults) -> Call {
+    let length = image_of(ORDER, &FEW).len();
+    let short = faults.pick(&[length - 1, 0, 15, 30]);
+    let room = faults.choose(11, short, length + faults.way % 3);
+    Call::Write { room }
+}
+
+fn image(faults: &Faults) -> Vec<u8> {
+    let keys = faults.choose(10, &TOO_MANY[..], faults.pick(&SETS));
+    let mut image = image_of(ORDER, keys);
+    if faults.has(6) {
+        let part = faults.way * 7 % image.len();
+        match faults.way % 4 {
+            0 => image.truncate(part),
+            1 => image.push(b'L'),
+            2 => image[2] = faults.pick(&[2, 0, 1]),
+            _ => image[0] = 0,
+        }
+    }
+    image
+}
+
+fn read(faults: &Faults) -> Call {
+    let image = image(faults);
+    Call::Read { image }
+}
+
+fn list(faults: &Faults) -> Call {
+    let image = image(faults);
+    let length = listing_length(ORDER, faults.pick(&SETS));
+    let short = faults.pick(&[length - 1, 0, 20]);
+    let room = faults.choose(11, short, length + faults.way % 3);
+    Call::List { image, room }
+}
+
+/// Every number but zero is a mark that is set. Such a place is handed back as
+/// it was, by an end and by a refusal.
+fn marks_of_done(case: &mut Case) {
+    for done in [0, 1, 2, 256, 1 << 32, 1 << 63, u64::MAX] {
+        let place = Place {
+            done,
+            ..Place::WHOLE
+        };
+        case.table = sound_table(SLOTS, ORDER, &FEW);
+        case.refused(Call::Step { place }, 0);
+        make_unsound(&mut case.table);
+        case.refused(Call::Step { place }, 7);
+        case.table.pop();
+        case.refused(Call::Step { place }, 1);
+    }
+}

@@ -1,0 +1,63 @@
+//! Every small number of slots and those about the powers of two; and in large
+//! tables numbers of keys about them. Where a program treats small tables and
+//! large ones apart, this is where it might go wrong.
+
+use super::{exercise, Section};
+use crate::call::Call;
+use crate::case::{Case, Tally};
+use crate::tables::{image_of, listing_length};
+use reference::MOST_SLOTS;
+
+pub const SECTION: Section = Section { name: "sizes", run };
+
+const EVERY_SIZE_TO: usize = 70;
+
+fn run(tally: &mut Tally) {
+    for slots in (1..=EVERY_SIZE_TO).chain(about_powers_of_two()) {
+        for number in [slots, slots - 1, slots / 2] {
+            tally.case(|case| each_call(case, slots, number));
+        }
+    }
+    for slots in [600, MOST_SLOTS] {
+        for number in about_powers_of_two().filter(|&number| number <= slots) {
+            tally.case(|case| each_call(case, slots, number));
+        }
+    }
+}
+
+/// 63, 64, 65, 127, .. as far as there are tables.
+fn about_powers_of_two() -> impl Iterator<Item = usize> {
+    let powers = (6..=12).map(|power| 1 << power);
+    let about = powers.flat_map(|power| [power - 1, power, power + 1]);
+    about.filter(|&number| number <= MOST_SLOTS)
+}
+
+/// One of each kind, and the insert and the delete to and fro.
+fn each_call(case: &mut Case, slots: usize, number: usize) {
+    let order = case.random.order();
+    let mut keys = case.random.keys(number + 1);
+    let fresh = keys.remove(case.random.below(number + 1));
+    exercise::build(case, slots, order, &keys);
+    let refusal = if number < slots { 0 } else { 10 };
+    case.refused(Call::Insert { key: fresh }, refusal);
+    case.call(Call::Delete { key: fresh });
+    exercise::look_up(case, &[fresh]);
+    if number > 0 {
+        let held = case.random.pick(&keys);
+        exercise::look_up(case, &[held]);
+        exercise::take_out_and_put_back(case, &[held]);
+    }
+    outputs(case, order, &keys);
+    exercise::read(case, slots, order, &keys);
+}
+
+/// All that is written of the table, each just fitting.
+fn outputs(case: &mut Case, order: u64, keys: &[u64]) {
+    let (low, high, room) = (0, u64::MAX, keys.len());
+    case.refused(Call::Range { low, high, room }, 0);
+    let image = image_of(order, keys);
+    let room = image.len();
+    case.refused(Call::Write { room }, 0);
+    let room = listing_length(order, keys);
+    case.refused(Call::List { image, room }, 0);
+}

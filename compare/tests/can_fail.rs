@@ -1,0 +1,228 @@
+//! The comparison can fail: true outcomes pass, and each is caught that is made
+//! wrong in one place.
+
+use compare::archive::{run_archive, Empty};
+use compare::call::{Call, Place};
+use compare::case::{Plan, Tally};
+use compare::outcome::{differences, refusal_faults, Outcome};
+use compare::run::{is_good, Total, FEWEST_CALLS};
+use compare::second_program::run_second_program;
+use compare::tables::{image_of, listing_length, sound_table};
+
+const KEYS: [u64; 5] = [3, 8, 20, 21, 40];
+
+fn table() -> Vec<u64> {
+    sound_table(7, 3, &KEYS)
+}
+
+/// One of each kind that is accepted, outputs longer than needed.
+fn accepted_calls() -> [Call; 10] {
+    let image = image_of(3, &KEYS);
+    [
+        Call::SetUp { order: 9 },
+        Call::Build {
+            order: 4,
+            list: vec![1, 2],
+        },
+        Call::Insert { key: 22 },
+        Call::Delete { key: 8 },
+        Call::LookUp { key: 21 },
+        Call::Range {
+            low: 4,
+            high: 30,
+            room: 6,
+        },
+        Call::Step {
+            place: Place::WHOLE,
+        },
+        Call::Write { room: 400 },
+        Call::Read {
+            image: image.clone(),
+        },
+        Call::List {
+            image,
+            room: listing_length(3, &KEYS) + 4,
+        },
+    ]
+}
+
+/// One of each kind that is refused, on a table that is not one.
+fn refused_calls() -> [Call; 10] {
+    let mut calls = accepted_calls();
+    calls[9] = Call::List {
+        image: vec![0; 20],
+        room: 30,
+    };
+    calls
+}
+
+/// The second program's outcome and what the tally then says of the archive's
+/// after a change: calls and failures.
+fn judged(call: &Call, table: &[u64], change: impl FnOnce(&mut Outcome)) -> (u64, u64) {
+    let second = run_second_program(call, table);
+    let mut archive = run_archive(call, table, Empty::Address);
+    change(&mut archive);
+    let mut tally = Tally::new("can-fail", Plan::default());
+    tally.case(|case| {
+        case.table = table.to_vec();
+        case.judge(call, &archive, &second, vec![]);
+    });
+    (tally.calls, tally.failed)
+}
+
+#[track_caller]
+fn caught(call: &Call, table: &[u64], change: impl FnOnce(&mut Outcome)) {
+    assert_eq!(judged(call, table, change), (1, 1), "{call:?}");
+}
+
+#[test]
+fn true_outcomes_pass() {
+    let table = table();
+    for call in accepted_calls() {
+        let outcome = run_archive(&call, &table, Empty::Address);
+        assert_eq!(outcome.reply.refusal, 0, "{call:?}");
+        assert_eq!(judged(&call, &table, |_| ()), (1, 0), "{call:?}");
+    }
+    for call in refused_calls() {
+        let outcome = run_archive(&call, &table[1..], Empty::Address);
+        assert_ne!(outcome.reply.refusal, 0, "{call:?}");
+        assert_eq!(judged(&call, &table[1..], |_| ()), (1, 0), "{call:?}");
+    }
+}
+
+#[test]
+fn a_wrong_refusal_is_caught() {
+    let table = table();
+    for call in accepted_calls() {
+        caught(&call, &table, |outcome| outcome.reply.refusal = 7);
+    }
+    for call in refused_calls() {
+        caught(&call, &table[1..], |outcome| outcome.reply.refusal += 1);
+        caught(&call, &table[1..], |outcome| outcome.reply.refusal = 0);
+    }
+}
+
+#[test]
+fn each_wrong_number_of_a_reply_is_caught() {
+    let numbers = |call: &Call, table: &[u64]| run_second_program(call, table).reply.numbers.len();
+    let table = table();
+    let mut fields = 0;
+    for (call, lent) in accepted_calls()
+        .iter()
+        .map(|call| (call, &table[..]))
+        .chain(refused_calls().iter().map(|call| (call, &table[1..])))
+    {
+        for i in 0..numbers(call, lent) {
+            caught(call, lent, |outcome| outcome.reply.numbers[i].1 ^= 1);
+            fields += 1;
+        }
+        caught(call, lent, |outcome| {
+            outcome.reply.numbers.push(("more", 0))
+        });
+    }
+    // Insert, delete, look-up, range, step, writing, listing, twice.
+    assert_eq!(fields, 2 * (1 + 1 + 5 + 1 + 2 + 1 + 1));
+}
+
+#[test]
+fn each_wrong_table_word_is_caught() {
+    let table = table();
+    for call in accepted_calls() {
+        for word in 0..table.len() {
+            caught(&call, &table, |outcome| outcome.table[word] ^= 1 << 63);
+        }
+        caught(&call, &table, |outcome| outcome.table.truncate(9));
+    }
+    for call in refused_calls() {
+        caught(&call, &table[1..], |outcome| outcome.table[30] += 1);
+    }
+}
+
+#[test]
+fn each_wrong_output_cell_is_caught_written_or_beyond() {
+    let table = table();
+    let mut cells = [0, 0];
+    for call in accepted_calls() {
+        for word in 0..call.output_words().len() {
+            caught(&call, &table, |outcome| outcome.words[word] ^= 1);
+            cells[0] += 1;
+        }
+        for byte in 0..call.output_bytes().len() {
+            caught(&call, &table, |outcome| outcome.bytes[byte] ^= 0x80);
+            cells[1] += 1;
+        }
+    }
+    assert_eq!(cells, [6, 400 + listing_length(3, &KEYS) + 4]);
+    let last = |outcome: &mut Outcome| *outcome.bytes.last_mut().unwrap() ^= 1;
+    caught(&Call::Write { room: 30 }, &table, last);
+}
+
+#[test]
+fn each_wrong_number_of_a_place_is_caught() {
+    let table = table();
+    let changes: [fn(&mut Place); 3] = [
+        |place| place.next += 1,
+        |place| place.high -= 1,
+        |place| place.done ^= 1,
+    ];
+    for place in [Place::WHOLE, Place::new(41, u64::MAX)] {
+        for change in changes {
+            let change = |outcome: &mut Outcome| change(outcome.place.as_mut().unwrap());
+            caught(&Call::Step { place }, &table, change);
+            caught(&Call::Step { place }, &table[1..], change);
+        }
+    }
+}
+
+#[test]
+fn memory_written_astray_is_caught() {
+    let table = table();
+    for call in accepted_calls() {
+        caught(&call, &table, |outcome| {
+            outcome.stray.push("beside the table")
+        });
+    }
+}
+
+/// Both programs in agreement about a refusal that changes something.
+#[test]
+fn a_refusal_that_changes_memory_is_caught_though_both_agree() {
+    let call = Call::Write { room: 30 };
+    let before = Outcome::untouched(&call, &table());
+    let refused = run_archive(&call, &table(), Empty::Address);
+    assert_eq!(refused.reply.refusal, 11);
+    assert_eq!(refusal_faults(&before, &refused), [""; 0]);
+    let changes: [fn(&mut Outcome); 3] = [
+        |outcome| outcome.bytes[0] ^= 1,
+        |outcome| outcome.table[0] ^= 1,
+        |outcome| outcome.reply.numbers[0].1 = 15,
+    ];
+    for change in changes {
+        let mut both = refused.clone();
+        change(&mut both);
+        assert_eq!(differences(&both, &both), [""; 0]);
+        assert_eq!(refusal_faults(&before, &both).len(), 1);
+    }
+}
+
+#[test]
+fn a_refusal_other_than_the_one_due_is_caught() {
+    let mut tally = Tally::new("can-fail", Plan::default());
+    tally.case(|case| {
+        case.lend_sound(2, 3, &[4]);
+        case.refused(Call::Insert { key: 4 }, 8);
+        case.refused(Call::Insert { key: 4 }, 10);
+    });
+    assert_eq!((tally.calls, tally.failed), (2, 1));
+}
+
+#[test]
+fn a_failure_or_too_few_calls_is_not_good() {
+    let passed = FEWEST_CALLS;
+    assert!(is_good(Total { passed, failed: 0 }, true));
+    assert!(!is_good(Total { passed, failed: 1 }, true));
+    assert!(!is_good(Total { passed, failed: 1 }, false));
+    let passed = passed - 1;
+    assert!(!is_good(Total { passed, failed: 0 }, true));
+    assert!(is_good(Total { passed, failed: 0 }, false));
+}
