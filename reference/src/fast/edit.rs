@@ -2,7 +2,8 @@
 //! the way to the key and below it get other links, ranks or counts; leaders
 //! change there and in the blocks next to them; slots in the key's cluster.
 
-use super::judge::Judged;
+use super::home::Homes;
+use super::judge::{Judged, Node};
 use super::record::*;
 use crate::priority::{priority, Entry};
 
@@ -12,29 +13,30 @@ pub fn insert(table: &mut [u64], judged: &mut Judged, key: u64) -> u64 {
     let new = edit.add(key);
     let touched = edit.link(new);
     edit.mend(&touched);
-    let rank = edit.record(new as u16)[RANK];
-    let root = edit.judged.keys[edit.root as usize];
+    let rank = edit.record(new)[RANK];
+    let root = edit.node(edit.root).key;
     table[NUMBER] += 1;
     table[ROOT] = root;
     rank
 }
 
 /// Deletes the key of that number. Gives the rank it had.
-pub fn delete(table: &mut [u64], judged: &mut Judged, number: usize) -> u64 {
+pub fn delete(table: &mut [u64], judged: &mut Judged, number: u16) -> u64 {
     let mut edit = Edit::of(table, judged);
-    let rank = edit.record(number as u16)[RANK];
+    let rank = edit.record(number)[RANK];
     let touched = edit.unlink(number);
     edit.mend(&touched);
-    edit.close(edit.judged.slot_of[number] as usize);
-    let root = edit.judged.keys.get(edit.root as usize).copied();
+    edit.close(edit.node(number).slot);
+    let root = edit.node(edit.root).key;
     table[NUMBER] -= 1;
-    table[ROOT] = root.unwrap_or(0);
+    table[ROOT] = root;
     rank
 }
 
 struct Edit<'a> {
     order: u64,
     root: u16,
+    homes: Homes,
     slots: &'a mut [Record],
     judged: &'a mut Judged,
 }
@@ -43,77 +45,84 @@ struct Edit<'a> {
 #[derive(Clone, Copy)]
 enum Hook {
     Root,
-    Left(usize),
-    Right(usize),
+    Left(u16),
+    Right(u16),
 }
+
+const LEFT_CHILD: usize = 0;
+const RIGHT_CHILD: usize = 1;
 
 impl<'a> Edit<'a> {
     fn of(table: &'a mut [u64], judged: &'a mut Judged) -> Edit<'a> {
         Edit {
             order: table[ORDER],
             root: judged.root(),
+            homes: Homes::new(slots(table).len()),
             slots: slots_mut(table),
             judged,
         }
     }
 
+    fn node(&self, number: u16) -> &Node {
+        &self.judged.nodes[number as usize]
+    }
+
     fn record(&self, number: u16) -> &Record {
-        &self.slots[self.judged.slot_of[number as usize] as usize]
+        &self.slots[self.node(number).slot]
     }
 
     fn record_mut(&mut self, number: u16) -> &mut Record {
-        &mut self.slots[self.judged.slot_of[number as usize] as usize]
+        &mut self.slots[self.judged.nodes[number as usize].slot]
     }
 
     fn children(&self, number: u16) -> [u16; 2] {
-        let number = number as usize;
-        [self.judged.left[number], self.judged.right[number]]
+        self.judged.children[number as usize]
     }
 
     fn hang(&mut self, hook: Hook, number: u16) {
         match hook {
             Hook::Root => self.root = number,
-            Hook::Left(above) => self.judged.left[above] = number,
-            Hook::Right(above) => self.judged.right[above] = number,
+            Hook::Left(above) => self.judged.children[above as usize][LEFT_CHILD] = number,
+            Hook::Right(above) => self.judged.children[above as usize][RIGHT_CHILD] = number,
         }
     }
 
     // -----------------------------------------------------------------------
     // Links
 
-    /// The nodes on the way down to the key while `go_on` says so, and where the
-    /// subtree hangs that it stopped at.
+    /// The nodes on the way down to the key while `go_on` says so, and the
+    /// subtree that it stopped at, with where that hangs.
     fn way_down(&self, key: u64, go_on: impl Fn(Entry) -> bool) -> (Vec<u16>, Hook, u16) {
         let (mut way, mut hook, mut at) = (vec![], Hook::Root, self.root);
-        while at != NONE && go_on(self.judged.entry(at as usize)) {
+        while at != NONE && go_on(self.node(at).entry()) {
             way.push(at);
-            let above = at as usize;
-            if key < self.judged.keys[above] {
-                (hook, at) = (Hook::Left(above), self.judged.left[above]);
-            } else {
-                (hook, at) = (Hook::Right(above), self.judged.right[above]);
-            }
+            let [left, right] = self.children(at);
+            (hook, at) = match key < self.node(at).key {
+                true => (Hook::Left(at), left),
+                false => (Hook::Right(at), right),
+            };
         }
         (way, hook, at)
     }
 
     /// Hangs a new node in: below the nodes on its way that outrank it, above
     /// the rest, which is split. Gives the nodes to mend, parents first.
-    fn link(&mut self, new: usize) -> Vec<u16> {
-        let entry = self.judged.entry(new);
+    fn link(&mut self, new: u16) -> Vec<u16> {
+        let entry = self.node(new).entry();
         let (mut touched, hook, mut at) = self.way_down(entry.key, |other| outranks(other, entry));
-        self.hang(hook, new as u16);
-        touched.push(new as u16);
+        self.hang(hook, new);
+        touched.push(new);
         let (mut lesser, mut greater) = (Hook::Left(new), Hook::Right(new));
         while at != NONE {
             touched.push(at);
-            let this = at as usize;
-            if self.judged.keys[this] < entry.key {
-                self.hang(lesser, at);
-                (lesser, at) = (Hook::Right(this), self.judged.right[this]);
+            let this = at;
+            let [left, right] = self.children(this);
+            if self.node(this).key < entry.key {
+                self.hang(lesser, this);
+                (lesser, at) = (Hook::Right(this), right);
             } else {
-                self.hang(greater, at);
-                (greater, at) = (Hook::Left(this), self.judged.left[this]);
+                self.hang(greater, this);
+                (greater, at) = (Hook::Left(this), left);
             }
         }
         self.hang(lesser, NONE);
@@ -123,24 +132,24 @@ impl<'a> Edit<'a> {
 
     /// Takes a node out: its subtrees are merged in its place. Gives the nodes
     /// to mend, parents first.
-    fn unlink(&mut self, number: usize) -> Vec<u16> {
-        let key = self.judged.keys[number];
+    fn unlink(&mut self, number: u16) -> Vec<u16> {
+        let key = self.node(number).key;
         let (mut touched, mut hook, _) = self.way_down(key, |other| other.key != key);
-        let [mut lesser, mut greater] = self.children(number as u16);
+        let [mut lesser, mut greater] = self.children(number);
         while lesser != NONE && greater != NONE {
-            let (low, high) = (lesser as usize, greater as usize);
-            let next = if outranks(self.judged.entry(low), self.judged.entry(high)) {
-                lesser = self.judged.right[low];
+            let (low, high) = (lesser, greater);
+            let (next, below) = if outranks(self.node(low).entry(), self.node(high).entry()) {
+                lesser = self.children(low)[RIGHT_CHILD];
                 (low, Hook::Right(low))
             } else {
-                greater = self.judged.left[high];
+                greater = self.children(high)[LEFT_CHILD];
                 (high, Hook::Left(high))
             };
-            self.hang(hook, next.0 as u16);
-            touched.push(next.0 as u16);
-            hook = next.1;
+            self.hang(hook, next);
+            touched.push(next);
+            hook = below;
         }
-        let rest = lesser.min(greater);
+        let rest = lesser.max(greater);
         self.hang(hook, rest);
         touched.extend((rest != NONE).then_some(rest));
         touched
@@ -161,11 +170,9 @@ impl<'a> Edit<'a> {
         }
         for &number in touched {
             let parent = *self.record(number);
-            for child in self.children(number) {
-                if child != NONE {
-                    let leader = leader_below(&parent, self.record(child)[RANK]);
-                    self.lead(child, leader);
-                }
+            for child in self.children(number).into_iter().filter(|&child| child != NONE) {
+                let rank = self.record(child)[RANK];
+                self.lead(child, leader_below((parent[KEY], parent[RANK]), parent[LEADER], rank));
             }
         }
     }
@@ -207,28 +214,25 @@ impl<'a> Edit<'a> {
 
     /// Numbers a new key and places it: from its home on, what it outranks gives
     /// way and goes on in its stead.
-    fn add(&mut self, key: u64) -> usize {
-        let new = self.judged.keys.len();
-        let mut placing = Entry { key, priority: priority(key) };
-        self.judged.keys.push(key);
-        self.judged.priorities.push(placing.priority);
-        self.judged.left.push(NONE);
-        self.judged.right.push(NONE);
-        self.judged.slot_of.push(NONE);
-        self.judged.finder.add(key, new as u16);
-        let (mut number, mut record) = (new, [key, 0, 0, 0, 0, 0]);
-        let mut slot = placing.home(self.slots.len());
+    fn add(&mut self, key: u64) -> u16 {
+        let new = self.judged.nodes.len() as u16;
+        let mut record = [key, 0, 0, 0, 0, 0];
+        let mut node = Node::new(&record, 0);
+        self.judged.nodes.push(node);
+        self.judged.children.push([NONE; 2]);
+        let mut number = new;
+        let mut slot = self.homes.home(node.priority);
         while self.slots[slot][KEY] != 0 {
             let other = self.judged.find(self.slots[slot][KEY]).expect("was judged");
-            if outranks(placing, self.judged.entry(other)) {
+            if outranks(node.entry(), self.node(other).entry()) {
                 std::mem::swap(&mut self.slots[slot], &mut record);
-                self.judged.slot_of[number] = slot as u16;
-                (number, placing) = (other, self.judged.entry(other));
+                self.judged.nodes[number as usize].slot = slot;
+                (number, node) = (other, *self.node(other));
             }
             slot = self.next(slot);
         }
         self.slots[slot] = record;
-        self.judged.slot_of[number] = slot as u16;
+        self.judged.nodes[number as usize].slot = slot;
         new
     }
 
@@ -243,17 +247,13 @@ impl<'a> Edit<'a> {
     /// Empties a slot and closes up: the next key that was driven past the hole
     /// goes there and leaves a hole of its own.
     fn close(&mut self, slot: usize) {
-        let slots = self.slots.len();
-        let from = |a: usize, b: usize| (b + slots - a) % slots;
-        let (mut hole, mut at) = (slot, self.next(slot));
+        let (mut hole, mut at, mut from_hole) = (slot, self.next(slot), 1);
         while at != slot && self.slots[at][KEY] != 0 {
-            let key = self.slots[at][KEY];
-            let entry = Entry { key, priority: priority(key) };
-            if from(entry.home(slots), at) >= from(hole, at) {
+            if self.homes.driven(priority(self.slots[at][KEY]), at) >= from_hole {
                 self.slots[hole] = self.slots[at];
-                hole = at;
+                (hole, from_hole) = (at, 0);
             }
-            at = self.next(at);
+            (at, from_hole) = (self.next(at), from_hole + 1);
         }
         self.slots[hole] = [0; 6];
     }

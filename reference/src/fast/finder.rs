@@ -3,26 +3,20 @@
 
 use super::record::NONE;
 
-/// An open-addressed table of numbers, at most a quarter full. The keys stand in
-/// the caller's list.
+/// An open-addressed table of numbers, at most a quarter full.
 pub struct Finder {
     numbers: Vec<u16>,
     shift: u32,
 }
 
 impl Finder {
-    /// The finder for a list of keys: each key's number is its place there.
-    /// Room is left for one key more. Of equal keys, the first is found.
-    pub fn new(keys: &[u64]) -> Finder {
-        let room = (4 * (keys.len() + 1)).next_power_of_two();
-        let mut finder = Finder {
+    /// An empty finder with room for so many keys.
+    pub fn for_keys(number: usize) -> Finder {
+        let room = (4 * number.max(1)).next_power_of_two();
+        Finder {
             numbers: vec![NONE; room],
             shift: u64::BITS - room.trailing_zeros(),
-        };
-        for (number, &key) in keys.iter().enumerate() {
-            finder.add(key, number as u16);
         }
-        finder
     }
 
     /// Where the search for a key begins: the high bits of its product with
@@ -32,6 +26,8 @@ impl Finder {
         (key.wrapping_mul(0x9E37_79B9_7F4A_7C15) >> self.shift) as usize
     }
 
+    /// Adds a key. Of equal keys, the first one is found.
+    #[inline(always)]
     pub fn add(&mut self, key: u64, number: u16) {
         let mask = self.numbers.len() - 1;
         let mut at = self.start(key);
@@ -41,17 +37,20 @@ impl Finder {
         self.numbers[at & mask] = number;
     }
 
-    /// The number of a key in the list; none when absent.
+    /// The number of a key; none when absent. Zero has the number `NONE`.
     #[inline(always)]
-    pub fn find(&self, keys: &[u64], key: u64) -> Option<usize> {
+    pub fn find(&self, key: u64, key_of: impl Fn(u16) -> u64) -> Option<u16> {
         let mask = self.numbers.len() - 1;
         let mut at = self.start(key);
         loop {
-            match self.numbers[at & mask] {
-                NONE => return None,
-                number if keys[number as usize] == key => return Some(number as usize),
-                _ => at += 1,
+            let number = self.numbers[at & mask];
+            if key_of(number) == key {
+                return Some(number);
             }
+            if number == NONE {
+                return None;
+            }
+            at += 1;
         }
     }
 }

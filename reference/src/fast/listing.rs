@@ -1,10 +1,10 @@
 //! The listing of an image.
 
-use super::image::{put, Block, Layout};
+use super::image::{put, Block, Layout, Records};
 use super::record::*;
 use crate::blocks::fill;
 
-/// A part of a line: its words, then a number.
+/// The words of each kind of line, before its numbers.
 const HEADER: [&str; 5] = ["order ", " keys ", " blocks ", " fill ", " root "];
 const BLOCK: [&str; 3] = ["block ", " level ", " keys "];
 const NODE: [&str; 3] = ["key ", " rank ", " count "];
@@ -12,50 +12,48 @@ const KEY_DIGITS: usize = 16;
 const LINE_FEED: usize = 1;
 
 /// The numbers of the header's line.
-fn header(layout: &Layout) -> [u64; 4] {
-    let (keys, blocks) = (layout.keys() as u64, layout.blocks as u64);
+fn header_numbers<R: Records>(layout: &Layout<R>) -> [u64; 4] {
+    let (keys, blocks) = (layout.keys() as u64, layout.blocks.len() as u64);
     [layout.order, keys, blocks, fill(layout.order, keys, blocks)]
 }
 
-fn block_line(block: &Block) -> [u64; 2] {
-    [block.level, block.places.len() as u64]
+fn block_numbers(block: Block) -> [u64; 2] {
+    [block.level, block.keys as u64]
 }
 
-fn node_line(record: &Record) -> [u64; 2] {
+fn node_numbers(record: Record) -> [u64; 2] {
     [record[RANK], record[COUNT]]
 }
 
 /// The bytes of a line with these words, a key and these numbers.
+#[inline(always)]
 fn line_length(words: &[&str], numbers: &[u64]) -> usize {
     let words: usize = words.iter().map(|word| word.len()).sum();
     let digits: usize = numbers.iter().map(|&number| digits(number)).sum();
     words + digits + KEY_DIGITS + LINE_FEED
 }
 
-pub fn length(layout: &Layout) -> usize {
-    let node = |&place: &u16| line_length(&NODE, &node_line(layout.record(place)));
-    let block = |block: Block| -> usize {
-        line_length(&BLOCK, &block_line(&block)) + block.places.iter().map(node).sum::<usize>()
-    };
-    line_length(&HEADER, &header(layout)) + layout.blocks().map(block).sum::<usize>()
+pub fn length<R: Records>(layout: &Layout<R>) -> usize {
+    let node = |record| line_length(&NODE, &node_numbers(record));
+    let parts = layout.parts().map(|(block, records)| {
+        line_length(&BLOCK, &block_numbers(block)) + records.map(node).sum::<usize>()
+    });
+    line_length(&HEADER, &header_numbers(layout)) + parts.sum::<usize>()
 }
 
 /// Writes the listing into bytes of its length.
-pub fn write(layout: &Layout, bytes: &mut [u8]) {
+pub fn write<R: Records>(layout: &Layout<R>, bytes: &mut [u8]) {
     let mut rest = bytes;
-    for (word, number) in HEADER.into_iter().zip(header(layout)) {
+    for (word, number) in HEADER.into_iter().zip(header_numbers(layout)) {
         put_text(&mut rest, word);
         put_decimal(&mut rest, number);
     }
     put_text(&mut rest, HEADER[4]);
     put(&mut rest, hexadecimal(layout.root));
     put(&mut rest, *b"\n");
-    for block in layout.blocks() {
-        put_line(&mut rest, BLOCK, block.leader, block_line(&block));
-        for &place in block.places {
-            let record = layout.record(place);
-            put_line(&mut rest, NODE, record[KEY], node_line(record));
-        }
+    for (block, records) in layout.parts() {
+        put_line(&mut rest, BLOCK, block.leader, block_numbers(block));
+        records.for_each(|record| put_line(&mut rest, NODE, record[KEY], node_numbers(record)));
     }
 }
 
@@ -95,8 +93,14 @@ fn hexadecimal(key: u64) -> [u8; KEY_DIGITS] {
 }
 
 /// How many decimal digits a number has.
+#[inline(always)]
 fn digits(number: u64) -> usize {
-    number.checked_ilog10().unwrap_or(0) as usize + 1
+    match number {
+        0..10 => 1,
+        10..100 => 2,
+        100..1000 => 3,
+        _ => number.ilog10() as usize + 1,
+    }
 }
 
 #[inline(always)]

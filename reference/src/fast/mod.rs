@@ -8,6 +8,7 @@
 mod edit;
 mod finder;
 mod fresh;
+mod home;
 mod image;
 mod judge;
 mod listing;
@@ -15,10 +16,10 @@ mod record;
 
 use crate::calls::*;
 use crate::is_order;
-use fresh::{nodes, write_table};
-use image::{candidate, Layout};
+use fresh::Nodes;
+use image::{candidate, rises, Layout, TableRecords};
 use judge::{judge, Judged};
-use record::{level, slots, slots_of_length, COUNT, LEADER, NONE, RANK};
+use record::{level, slots, slots_of_length, KEY, NONE, RANK};
 
 /// What a call answers inside: its result, or the refusal's number.
 type Outcome<T> = Result<T, u64>;
@@ -81,10 +82,9 @@ pub fn build(table: &mut [u64], order: u64, list: &[u64]) -> PlainReply {
 fn try_build(table: &mut [u64], order: u64, list: &[u64]) -> Outcome<()> {
     let slots = length_of(table)?;
     refuse_if(!is_order(order), ORDER)?;
-    let rises = list.windows(2).all(|pair| pair[0] < pair[1]) && list.first() != Some(&0);
-    refuse_if(!rises, NOT_RISING)?;
+    refuse_if(!rises(list) || list.first() == Some(&0), NOT_RISING)?;
     refuse_if(list.len() > slots, TOO_MANY)?;
-    write_table(table, order, &nodes(order, list));
+    Nodes::new(order, [&[0], list].concat()).write_table(table, order);
     Ok(())
 }
 
@@ -98,7 +98,7 @@ fn try_insert(table: &mut [u64], key: u64) -> Outcome<u64> {
     refuse_if(key == 0, KEY_ZERO)?;
     let mut judged = sound(table)?;
     refuse_if(judged.find(key).is_some(), HELD)?;
-    refuse_if(judged.keys.len() == slots, TOO_MANY)?;
+    refuse_if(judged.number() == slots, TOO_MANY)?;
     Ok(edit::insert(table, &mut judged, key))
 }
 
@@ -127,26 +127,21 @@ fn try_look_up(table: &[u64], key: u64) -> Outcome<LookUpReply> {
     length_of(table)?;
     refuse_if(key == 0, KEY_ZERO)?;
     let judged = sound(table)?;
-    let record = |number: u16| &slots(table)[judged.slot_of[number as usize] as usize];
+    let record = |number: u16| &slots(table)[judged.nodes[number as usize].slot];
+    let (mut at, mut last_level) = (judged.root(), None);
     let mut reply = LookUpReply::default();
-    let mut at = judged.root();
-    let mut last_level = None;
     while at != NONE {
         // Levels fall on the way down, so that no block is met twice.
-        let this_level = level(record(at)[RANK], record(judged.root())[RANK]);
-        if last_level != Some(this_level) {
-            reply.blocks += 1;
-            last_level = Some(this_level);
+        let here = record(at);
+        let this_level = Some(level(here[RANK], record(judged.root())[RANK]));
+        reply.blocks += (this_level != last_level) as u64;
+        last_level = this_level;
+        if key == here[KEY] {
+            let [_, _, _, leader, rank, count] = *here;
+            return Ok(LookUpReply { held: true, rank, count, leader, ..reply });
         }
-        let here = judged.keys[at as usize];
-        if key == here {
-            reply.held = true;
-            reply.rank = record(at)[RANK];
-            reply.count = record(at)[COUNT];
-            reply.leader = record(at)[LEADER];
-            break;
-        }
-        at = if key < here { judged.left[at as usize] } else { judged.right[at as usize] };
+        let [left, right] = judged.children[at as usize];
+        at = if key < here[KEY] { left } else { right };
     }
     Ok(reply)
 }
@@ -160,10 +155,11 @@ fn try_range(table: &[u64], low: u64, high: u64, output: &mut [u64]) -> Outcome<
     length_of(table)?;
     refuse_if(low > high, LOW_ABOVE_HIGH)?;
     let judged = sound(table)?;
-    let keys = judged.keys_within(low, high);
-    refuse_if(output.len() < keys.len(), OUTPUT_SHORT)?;
-    output[..keys.len()].copy_from_slice(&keys);
-    Ok(keys.len())
+    let held = judged.nodes[1..].iter().map(|node| node.key);
+    let number = held.filter(|key| (low..=high).contains(key)).count();
+    let output = output.get_mut(..number).ok_or(OUTPUT_SHORT)?;
+    judged.write_from(low, output);
+    Ok(number)
 }
 
 /// "a step 1, 7"; the next place comes with the reply.
@@ -199,7 +195,9 @@ pub fn write_image(table: &[u64], output: &mut [u8]) -> LengthReply {
 fn try_write_image(table: &[u64], output: &mut [u8]) -> Outcome<usize> {
     length_of(table)?;
     let judged = sound(table)?;
-    let layout = Layout::of_table(table, &judged);
+    let records = TableRecords { slots: slots(table), judged: &judged };
+    let rising = judged.rising();
+    let layout = Layout::new(table[record::ORDER], &records, judged.root(), rising.iter().copied());
     let length = layout.length();
     layout.write(output.get_mut(..length).ok_or(OUTPUT_SHORT)?);
     Ok(length)
@@ -213,10 +211,10 @@ pub fn read_image(table: &mut [u64], bytes: &[u8]) -> PlainReply {
 fn try_read_image(table: &mut [u64], bytes: &[u8]) -> Outcome<()> {
     let slots = length_of(table)?;
     let (order, keys) = candidate(bytes).ok_or(IMAGE)?;
-    let nodes = nodes(order, &keys);
-    refuse_if(!Layout::of_nodes(order, &nodes).is_image(bytes), IMAGE)?;
-    refuse_if(keys.len() > slots, TOO_MANY)?;
-    write_table(table, order, &nodes);
+    let nodes = Nodes::new(order, keys);
+    refuse_if(!nodes.layout(order).is_image(bytes), IMAGE)?;
+    refuse_if(nodes.number() > slots, TOO_MANY)?;
+    nodes.write_table(table, order);
     Ok(())
 }
 
@@ -227,8 +225,8 @@ pub fn list(bytes: &[u8], output: &mut [u8]) -> LengthReply {
 
 fn try_list(bytes: &[u8], output: &mut [u8]) -> Outcome<usize> {
     let (order, keys) = candidate(bytes).ok_or(IMAGE)?;
-    let nodes = nodes(order, &keys);
-    let layout = Layout::of_nodes(order, &nodes);
+    let nodes = Nodes::new(order, keys);
+    let layout = nodes.layout(order);
     refuse_if(!layout.is_image(bytes), IMAGE)?;
     let length = listing::length(&layout);
     listing::write(&layout, output.get_mut(..length).ok_or(OUTPUT_SHORT)?);

@@ -20,8 +20,9 @@ pub const ORDER: usize = 0;
 pub const NUMBER: usize = 1;
 pub const ROOT: usize = 2;
 
-/// Nodes are named by small numbers; this one names none.
-pub const NONE: u16 = u16::MAX;
+/// Nodes are named by numbers from 1 on. This one stands for no node: it has
+/// key, rank and count zero, so that it need not be told apart.
+pub const NONE: u16 = 0;
 
 /// M, when the length is that of a table.
 pub fn slots_of_length(words: usize) -> Option<usize> {
@@ -51,7 +52,7 @@ pub fn rank_and_count(order: u64, is_root: bool, left: (u64, u64), right: (u64, 
     let at_highest = |child: (u64, u64)| if child.0 == highest { child.1 } else { 0 };
     // A child's words may be anything; wrong ones fail at the child itself.
     let together = at_highest(left).wrapping_add(at_highest(right)).wrapping_add(1);
-    if together >= order || (is_root && together > 1) {
+    if (together >= order) | (is_root & (together > 1)) {
         (highest.wrapping_add(1), 1)
     } else {
         (highest, together)
@@ -61,11 +62,11 @@ pub fn rank_and_count(order: u64, is_root: bool, left: (u64, u64), right: (u64, 
 /// The leader of a child: the parent if it is of higher rank, else the parent's
 /// own leader, being of the same rank.
 #[inline(always)]
-pub fn leader_below(parent: &Record, rank: u64) -> u64 {
-    if parent[RANK] > rank {
-        parent[KEY]
+pub fn leader_below<T>(parent: (T, u64), parents_leader: T, rank: u64) -> T {
+    if parent.1 > rank {
+        parent.0
     } else {
-        parent[LEADER]
+        parents_leader
     }
 }
 
