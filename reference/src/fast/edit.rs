@@ -26,7 +26,7 @@ pub fn delete(table: &mut [u64], judged: &mut Judged, number: u16) -> u64 {
     let rank = edit.record(number)[RANK];
     let touched = edit.unlink(number);
     edit.mend(&touched);
-    edit.close(edit.node(number).slot);
+    edit.close(edit.node(number).slot as usize);
     let root = edit.node(edit.root).key;
     table[NUMBER] -= 1;
     table[ROOT] = root;
@@ -68,11 +68,11 @@ impl<'a> Edit<'a> {
     }
 
     fn record(&self, number: u16) -> &Record {
-        &self.slots[self.node(number).slot]
+        &self.slots[self.node(number).slot as usize]
     }
 
     fn record_mut(&mut self, number: u16) -> &mut Record {
-        &mut self.slots[self.judged.nodes[number as usize].slot]
+        &mut self.slots[self.judged.nodes[number as usize].slot as usize]
     }
 
     fn children(&self, number: u16) -> [u16; 2] {
@@ -217,7 +217,7 @@ impl<'a> Edit<'a> {
     fn add(&mut self, key: u64) -> u16 {
         let new = self.judged.nodes.len() as u16;
         let mut record = [key, 0, 0, 0, 0, 0];
-        let mut node = Node::new(&record, 0);
+        let mut node = Node::new(&record, 0, self.homes);
         self.judged.nodes.push(node);
         self.judged.children.push([NONE; 2]);
         let mut number = new;
@@ -226,13 +226,13 @@ impl<'a> Edit<'a> {
             let other = self.judged.find(self.slots[slot][KEY]).expect("was judged");
             if outranks(node.entry(), self.node(other).entry()) {
                 std::mem::swap(&mut self.slots[slot], &mut record);
-                self.judged.nodes[number as usize].slot = slot;
+                self.judged.nodes[number as usize].slot = slot as u32;
                 (number, node) = (other, *self.node(other));
             }
             slot = self.next(slot);
         }
         self.slots[slot] = record;
-        self.judged.nodes[number as usize].slot = slot;
+        self.judged.nodes[number as usize].slot = slot as u32;
         new
     }
 

@@ -5,11 +5,13 @@
 
 use super::finder::Finder;
 use super::home::Homes;
+use super::image::Records;
 use super::record::*;
 use crate::is_order;
 use crate::priority::{priority, Entry};
 
-/// A key's words, its priority and its slot, in one line of the cache.
+/// A key's words, its priority, its slot, and how many slots it was driven on
+/// from its home, in one line of the cache.
 #[derive(Clone, Copy, Default)]
 #[repr(align(64))]
 pub struct Node {
@@ -20,14 +22,17 @@ pub struct Node {
     leader: u64,
     rank: u64,
     count: u64,
-    pub slot: usize,
+    pub slot: u32,
+    driven: u32,
 }
 
 impl Node {
-    pub fn new(record: &Record, slot: usize) -> Node {
+    #[inline(always)]
+    pub fn new(record: &Record, slot: usize, homes: Homes) -> Node {
         let [key, left, right, leader, rank, count] = *record;
         let priority = priority(key);
-        Node { key, priority, left, right, leader, rank, count, slot }
+        let driven = homes.driven(priority, slot) as u32;
+        Node { key, priority, left, right, leader, rank, count, slot: slot as u32, driven }
     }
 
     #[inline(always)]
@@ -63,7 +68,7 @@ pub fn judge(table: &[u64]) -> Option<Judged> {
         return None;
     }
     let mut judged = collect(slots, table[NUMBER])?;
-    let right = in_place(&judged.nodes, slots.len()) && judged.walk(table[ORDER], table[ROOT]);
+    let right = in_place(&judged.nodes[1..], slots.len()) && judged.hangs_together(table[ORDER], table[ROOT]);
     right.then_some(judged)
 }
 
@@ -77,13 +82,13 @@ fn collect(slots: &[Record], number: u64) -> Option<Judged> {
     if occupied.len() as u64 != number {
         return None;
     }
+    let homes = Homes::new(slots.len());
     let mut finder = Finder::for_keys(occupied.len() + 1);
     let mut nodes = Vec::with_capacity(occupied.len() + 2);
     nodes.push(Node::default());
-    for slot in occupied {
-        let node = Node::new(&slots[slot as usize], slot as usize);
-        finder.add(node.key, nodes.len() as u16);
-        nodes.push(node);
+    nodes.extend(occupied.iter().map(|&slot| Node::new(&slots[slot as usize], slot.into(), homes)));
+    for (number, node) in (0..).zip(&nodes).skip(1) {
+        finder.add(node.key, number);
     }
     let children = vec![[NONE; 2]; nodes.len()];
     Some(Judged { nodes, finder, children, visits: vec![] })
@@ -104,113 +109,107 @@ fn occupied(slots: &[Record]) -> Option<Vec<u16>> {
     (stray == 0).then_some(occupied)
 }
 
-/// How a key stands: how many slots it was driven on from its home.
-#[derive(Clone, Copy)]
-struct Standing {
-    entry: Entry,
-    driven: usize,
-}
-
 /// Whether every key stands where placing puts it: all slots from its home to
 /// the one before its own hold keys that outrank it.
 ///
 /// The keys are gone through by slot, from one that no key was driven past. A
 /// key that outranks this one has itself been found to be outranked by all that
 /// it was driven past: those need no second look.
-fn in_place(nodes: &[Node], slots: usize) -> bool {
-    let homes = Homes::new(slots);
-    let (later, earlier) = nodes[1..].split_at(start_of_a_run(nodes, slots));
-    let mut standing: Vec<Standing> = Vec::with_capacity(nodes.len());
-    let mut run = 0;
-    let mut next_slot = slots;
-    for (at, node) in earlier.iter().chain(later).enumerate() {
-        if node.slot != next_slot {
-            run = at;
-        }
-        next_slot = if node.slot + 1 == slots { 0 } else { node.slot + 1 };
-        let (entry, driven) = (node.entry(), homes.driven(node.priority, node.slot));
-        if driven > at - run {
+fn in_place(held: &[Node], slots: usize) -> bool {
+    let number = held.len();
+    let first = start_of_a_run(held, slots);
+    let node = |turn: usize| &held[if turn < number { turn } else { turn - number }];
+    let (mut run, mut next_slot) = (first, slots);
+    for turn in first..first + number {
+        let this = node(turn);
+        let slot = this.slot as usize;
+        run = if slot == next_slot { run } else { turn };
+        next_slot = if slot + 1 == slots { 0 } else { slot + 1 };
+        let home = turn.wrapping_sub(this.driven as usize);
+        if this.driven as usize > turn - run {
             return false;
         }
-        let mut left = driven;
-        while left > 0 {
-            let passed = standing[at - driven + left - 1];
-            if !outranks(passed.entry, entry) {
+        let mut above = turn;
+        while above > home {
+            let passed = node(above - 1);
+            if !outranks(passed.entry(), this.entry()) {
                 return false;
             }
-            left = left.saturating_sub(passed.driven + 1);
+            above = (above - 1).saturating_sub(passed.driven as usize);
         }
-        standing.push(Standing { entry, driven });
     }
     true
 }
 
 /// How many keys stand before one that stands after an empty slot or, in a full
 /// table, after the key that all others outrank: no key was driven past either.
-fn start_of_a_run(nodes: &[Node], slots: usize) -> usize {
-    let held = &nodes[1..];
+fn start_of_a_run(held: &[Node], slots: usize) -> usize {
     if held.len() == slots {
         let last = (0..slots).reduce(|a, b| if outranks(held[a].entry(), held[b].entry()) { b } else { a });
-        return last.map_or(0, |last| last + 1);
+        return last.map_or(0, |last| (last + 1) % slots);
     }
-    // Where the numbers from 0 on stand in the slots from 0 on, a run may have
-    // begun at the table's end.
-    let at_slots = held.iter().enumerate().take_while(|(i, node)| *i == node.slot);
-    at_slots.count()
+    // Keys in slot 0 and those next to it may belong to a run that begins at the
+    // table's end.
+    let near_zero = (0..).zip(held).take_while(|(slot, node)| *slot == node.slot);
+    near_zero.count() % held.len().max(1)
 }
 
 // ---------------------------------------------------------------------------
 // Nodes
 
+impl Records for Judged {
+    /// The record that the node had when the table was judged.
+    #[inline(always)]
+    fn record(&self, number: u16) -> Record {
+        let Node { key, left, right, leader, rank, count, .. } = self.nodes[number as usize];
+        [key, left, right, leader, rank, count]
+    }
+}
+
 impl Judged {
-    /// Whether the words of the nodes are right, from the root down, each node
-    /// being met. A node's key is in the interval that its ancestors leave, so
-    /// that no node is met twice.
-    fn walk(&mut self, order: u64, root: u64) -> bool {
-        let number = self.nodes.len() - 1;
+    /// Whether the words of the nodes are right: each node's by those of its
+    /// children, and all nodes are met from the root down.
+    fn hangs_together(&mut self, order: u64, root: u64) -> bool {
         let Some(root) = self.find(root) else {
             return false;
         };
-        if (root == NONE) != (number == 0) || self.nodes[root as usize].leader != 0 {
-            return false;
-        }
+        let Judged { nodes, finder, children, .. } = self;
+        nodes[root as usize].leader == 0
+            && (0..).zip(nodes.iter()).zip(children).skip(1).all(|((number, node), found)| {
+                let find = |key| finder.find(key, |number| nodes[number as usize].key);
+                let (Some(left), Some(right)) = (find(node.left), find(node.right)) else {
+                    return false;
+                };
+                *found = [left, right];
+                is_right(order, number == root, node, &nodes[left as usize], &nodes[right as usize])
+            })
+            && self.walk(root)
+    }
+
+    /// Whether all nodes are met from the root down, each key in the interval
+    /// that its ancestors leave, so that none is met twice.
+    fn walk(&mut self, root: u16) -> bool {
+        let number = self.number();
         let mut visits = vec![Visit::default(); number + 2];
         visits[0] = Visit { number: root, low: 0, high: u64::MAX };
-        let mut known = number.min(1);
+        let mut known = (root != NONE) as usize;
         let mut met = 0;
-        while met < known {
-            if known > number || !self.visit(order, &mut visits, met, &mut known) {
+        while met < known && known <= number {
+            let Visit { number, low, high } = visits[met];
+            let key = self.nodes[number as usize].key;
+            if (key <= low) | (key > high) {
                 return false;
             }
+            let [left, right] = self.children[number as usize];
+            visits[known] = Visit { number: left, low, high: key - 1 };
+            known += (left != NONE) as usize;
+            visits[known] = Visit { number: right, low: key, high };
+            known += (right != NONE) as usize;
             met += 1;
         }
         visits.truncate(number);
         self.visits = visits;
-        met == number
-    }
-
-    /// Looks at one node; appends its children to the nodes that are known.
-    #[inline(always)]
-    fn visit(&mut self, order: u64, visits: &mut [Visit], at: usize, known: &mut usize) -> bool {
-        let Visit { number, low, high } = visits[at];
-        let node = self.nodes[number as usize];
-        let (Some(left), Some(right)) = (self.find(node.left), self.find(node.right)) else {
-            return false;
-        };
-        self.children[number as usize] = [left, right];
-        visits[*known] = Visit { number: left, low, high: node.key.wrapping_sub(1) };
-        *known += (left != NONE) as usize;
-        visits[*known] = Visit { number: right, low: node.key, high };
-        *known += (right != NONE) as usize;
-        let (left, right) = (&self.nodes[left as usize], &self.nodes[right as usize]);
-        let ranks = [left, right].map(|child| (child.rank, child.count));
-        let expected = rank_and_count(order, at == 0, ranks[0], ranks[1]);
-        (low < node.key)
-            & (node.key <= high)
-            & is_child(&node, left)
-            & is_child(&node, right)
-            & (node.rank == expected.0)
-            & (node.count == expected.1)
+        met == number && known == number
     }
 
     /// The number of a key; none when absent. Zero has the number `NONE`.
@@ -247,7 +246,19 @@ impl Judged {
     }
 
     /// Fills the output with the keys from `low` on, rising; there are enough.
-    pub fn write_from(&self, low: u64, output: &mut [u64]) {
+    /// The way of the keys themselves is the shorter one for few, the order of
+    /// all keys for many.
+    pub fn write_keys(&self, low: u64, output: &mut [u64]) {
+        if 4 * output.len() < self.number() {
+            return self.write_few(low, output);
+        }
+        let rising = self.rising();
+        let keys = rising.iter().map(|&number| self.nodes[number as usize].key);
+        let from = keys.skip_while(|&key| key < low);
+        output.iter_mut().zip(from).for_each(|(word, key)| *word = key);
+    }
+
+    fn write_few(&self, low: u64, output: &mut [u64]) {
         let mut above = vec![];
         let mut at = self.root() as usize;
         for word in output {
@@ -288,6 +299,14 @@ impl Judged {
         }
         rising
     }
+}
+
+/// Whether a node outranks its children, and its rank and count and their leaders
+/// are right if their ranks and counts and its leader are.
+#[inline(always)]
+fn is_right(order: u64, is_root: bool, node: &Node, left: &Node, right: &Node) -> bool {
+    let expected = rank_and_count(order, is_root, (left.rank, left.count), (right.rank, right.count));
+    is_child(node, left) & is_child(node, right) & (node.rank == expected.0) & (node.count == expected.1)
 }
 
 /// Whether a parent outranks its child and is or gives its leader. No node is a

@@ -17,9 +17,9 @@ mod record;
 use crate::calls::*;
 use crate::is_order;
 use fresh::Nodes;
-use image::{candidate, rises, Layout, TableRecords};
+use image::{candidate, rises, Layout, Records};
 use judge::{judge, Judged};
-use record::{level, slots, slots_of_length, KEY, NONE, RANK};
+use record::{level, slots_of_length, KEY, NONE, RANK};
 
 /// What a call answers inside: its result, or the refusal's number.
 type Outcome<T> = Result<T, u64>;
@@ -127,17 +127,17 @@ fn try_look_up(table: &[u64], key: u64) -> Outcome<LookUpReply> {
     length_of(table)?;
     refuse_if(key == 0, KEY_ZERO)?;
     let judged = sound(table)?;
-    let record = |number: u16| &slots(table)[judged.nodes[number as usize].slot];
+    let k = judged.record(judged.root())[RANK];
     let (mut at, mut last_level) = (judged.root(), None);
     let mut reply = LookUpReply::default();
     while at != NONE {
         // Levels fall on the way down, so that no block is met twice.
-        let here = record(at);
-        let this_level = Some(level(here[RANK], record(judged.root())[RANK]));
+        let here = judged.record(at);
+        let this_level = Some(level(here[RANK], k));
         reply.blocks += (this_level != last_level) as u64;
         last_level = this_level;
         if key == here[KEY] {
-            let [_, _, _, leader, rank, count] = *here;
+            let [_, _, _, leader, rank, count] = here;
             return Ok(LookUpReply { held: true, rank, count, leader, ..reply });
         }
         let [left, right] = judged.children[at as usize];
@@ -158,7 +158,7 @@ fn try_range(table: &[u64], low: u64, high: u64, output: &mut [u64]) -> Outcome<
     let held = judged.nodes[1..].iter().map(|node| node.key);
     let number = held.filter(|key| (low..=high).contains(key)).count();
     let output = output.get_mut(..number).ok_or(OUTPUT_SHORT)?;
-    judged.write_from(low, output);
+    judged.write_keys(low, output);
     Ok(number)
 }
 
@@ -195,9 +195,7 @@ pub fn write_image(table: &[u64], output: &mut [u8]) -> LengthReply {
 fn try_write_image(table: &[u64], output: &mut [u8]) -> Outcome<usize> {
     length_of(table)?;
     let judged = sound(table)?;
-    let records = TableRecords { slots: slots(table), judged: &judged };
-    let rising = judged.rising();
-    let layout = Layout::new(table[record::ORDER], &records, judged.root(), rising.iter().copied());
+    let layout = Layout::new(table[record::ORDER], &judged, judged.root(), judged.rising().into_iter());
     let length = layout.length();
     layout.write(output.get_mut(..length).ok_or(OUTPUT_SHORT)?);
     Ok(length)
