@@ -24,7 +24,9 @@ pub struct Case {
 
 /// All cases, in the order of the report.
 pub fn all() -> Vec<Case> {
-    let mut cases: Vec<Case> = [64, 512, 2048, 4000, 4096].map(|keys| random(4096, keys)).into();
+    let mut cases: Vec<Case> = [64, 512, 2048, 4000, 4096]
+        .map(|keys| random(4096, keys))
+        .into();
     cases.push(random(64, 32));
     cases.push(chain());
     cases.push(one_home());
@@ -37,7 +39,13 @@ fn random(slots: usize, number: usize) -> Case {
     let (keys, absent) = distinct(number, || random.next().max(1));
     let held = (0..TURNS).map(|turn| keys[turn * number / TURNS]).collect();
     let name = format!("M = {slots}, n = {number}");
-    Case { name, slots, keys, held, absent }
+    Case {
+        name,
+        slots,
+        keys,
+        held,
+        absent,
+    }
 }
 
 /// A chain of 4,095 keys: rising keys with falling priorities, so that the treap
@@ -57,7 +65,13 @@ fn chain() -> Case {
     let absent = keys.split_off(LENGTH);
     let held = keys[LENGTH - TURNS..].to_vec();
     let name = format!("M = 4096, a chain of n = {LENGTH}");
-    Case { name, slots: 4096, keys, held, absent }
+    Case {
+        name,
+        slots: 4096,
+        keys,
+        held,
+        absent,
+    }
 }
 
 /// 4,000 keys with one home, the middle slot; those to insert have it too.
@@ -74,7 +88,13 @@ fn one_home() -> Case {
     });
     let held = (0..TURNS).map(|turn| keys[turn * NUMBER / TURNS]).collect();
     let name = format!("M = {SLOTS}, one home for all n = {NUMBER}");
-    Case { name, slots: SLOTS, keys, held, absent }
+    Case {
+        name,
+        slots: SLOTS,
+        keys,
+        held,
+        absent,
+    }
 }
 
 /// So many different keys, rising, and some more that are not among them.

@@ -7,16 +7,22 @@ use std::fmt::Write;
 
 const KEY_BYTES: usize = 8;
 
+pub type Set = BTreeSet<u64>;
+
 /// A set, the serialised copy that it ought to equal, and room to serialise in.
 pub struct Plain {
-    pub set: BTreeSet<u64>,
+    pub set: Set,
     pub stored: Vec<u8>,
     pub room: Vec<u8>,
 }
 
-/// Eight bytes for each key, rising.
+/// Eight bytes for each key, rising. Room is taken also for no keys: comparing
+/// bytes at no real address is slow on some processors.
 pub fn serialised<'a>(keys: impl IntoIterator<Item = &'a u64>) -> Vec<u8> {
-    keys.into_iter().flat_map(|key| key.to_le_bytes()).collect()
+    let mut bytes = Vec::with_capacity(KEY_BYTES);
+    keys.into_iter()
+        .for_each(|key| bytes.extend_from_slice(&key.to_le_bytes()));
+    bytes
 }
 
 impl Plain {
@@ -24,7 +30,7 @@ impl Plain {
         Plain {
             set: keys.iter().copied().collect(),
             stored: serialised(keys),
-            room: vec![],
+            room: Vec::with_capacity(KEY_BYTES * (keys.len() + 1)),
         }
     }
 

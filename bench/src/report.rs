@@ -1,5 +1,6 @@
 //! The report, in Markdown.
 
+use crate::agree;
 use crate::case::{self, Case, ORDER};
 use crate::rows::Lent;
 use crate::timing::medians;
@@ -7,13 +8,16 @@ use crate::timing::medians;
 /// Measures every row and prints it.
 pub fn print() {
     println!("Order {ORDER}. Times are medians. The last three columns are multiples of");
-    println!("(a) reading the table's words once, (b) the same call in the second program's fast form,");
+    println!(
+        "(a) reading the table's words once, (b) the same call in the second program's fast form,"
+    );
     println!("(c) a `BTreeSet<u64>`, serialised whole and compared with a stored copy.");
     case::all().iter().for_each(print_case);
 }
 
 fn print_case(case: &Case) {
     let lent = Lent::new(case);
+    agree::check(case, &lent.table, &lent.image);
     println!("\n### {}\n", case.name);
     println!("| call | µs | × (a) | × (b) | × (c) |");
     println!("|---|---:|---:|---:|---:|");
@@ -22,10 +26,19 @@ fn print_case(case: &Case) {
         let [ours, words, fast, plain] = medians(row.candidates);
         reading.push(words);
         let ratios = [words, fast, plain].map(|other| ratio(ours / other));
-        println!("| {} | {} | {} |", row.call, micros(ours), ratios.join(" | "));
+        println!(
+            "| {} | {} | {} |",
+            row.call,
+            micros(ours),
+            ratios.join(" | ")
+        );
     }
     reading.sort_by(f64::total_cmp);
-    println!("\n(a) reads {} words in {} µs.", lent.words(), micros(reading[reading.len() / 2]));
+    println!(
+        "\n(a) reads {} words in {} µs.",
+        lent.table.len(),
+        micros(reading[reading.len() / 2])
+    );
 }
 
 /// Nanoseconds as microseconds with three figures or so.

@@ -2,16 +2,13 @@
 //! with. Outputs and tables are not cleared between calls. Every reply is
 //! looked at: a call that refuses when it should not ends the run.
 
-use crate::case::{Case, ORDER, TURNS};
-use crate::plain::{serialised, Plain};
+use crate::candidates::{asking, changing, changing_set, expect, over, reading, refusal};
+use crate::case::{Case, ORDER};
+use crate::plain::{serialised, Plain, Set};
 use crate::timing::{candidate, Candidate};
-use btreap::Refusal;
 use reference::calls::{self, TOO_MANY};
 use reference::fast;
-use std::collections::BTreeSet;
 use std::hint::black_box;
-
-type Set = BTreeSet<u64>;
 
 /// One call on one case with its four candidates: the library's call, (a)
 /// reading the table's words once, (b) the second program's fast form, and (c)
@@ -24,8 +21,8 @@ pub struct Row<'a> {
 /// A case with the sound table for its keys, its image and its listing's length.
 pub struct Lent<'a> {
     case: &'a Case,
-    table: Vec<u64>,
-    image: Vec<u8>,
+    pub table: Vec<u64>,
+    pub image: Vec<u8>,
     text: usize,
 }
 
@@ -36,20 +33,31 @@ impl<'a> Lent<'a> {
         let mut image = vec![0; btreap::LONGEST_IMAGE];
         let length = btreap::write(&table, &mut image).expect("the table is sound");
         image.truncate(length);
-        let text = btreap::list(&image, &mut vec![0; 100 * (case.keys.len() + 1)]).expect("the image is right");
-        Lent { case, table, image, text }
-    }
-
-    pub fn words(&self) -> usize {
-        self.table.len()
+        let text = btreap::list(&image, &mut vec![0; 100 * (case.keys.len() + 1)])
+            .expect("the image is right");
+        Lent {
+            case,
+            table,
+            image,
+            text,
+        }
     }
 
     fn is_full(&self) -> bool {
         self.case.keys.len() == self.case.slots
     }
 
-    fn row(&'a self, call: &str, ours: Candidate<'a>, fast: Candidate<'a>, plain: Candidate<'a>) -> Row<'a> {
-        Row { call: call.to_string(), candidates: [ours, reading(&self.table), fast, plain] }
+    fn row(
+        &'a self,
+        call: &str,
+        ours: Candidate<'a>,
+        fast: Candidate<'a>,
+        plain: Candidate<'a>,
+    ) -> Row<'a> {
+        Row {
+            call: call.to_string(),
+            candidates: [ours, reading(&self.table), fast, plain],
+        }
     }
 
     pub fn rows(&'a self) -> Vec<Row<'a>> {
@@ -74,13 +82,16 @@ impl<'a> Lent<'a> {
 
     /// (c): an empty set takes the set's place.
     fn set_up(&'a self) -> Row<'a> {
-        let plain = Plain { stored: vec![], ..Plain::new(&[]) };
         self.row(
             "set_up",
-            over(&self.table, |t, _| expect(0, refusal(btreap::set_up(t, ORDER)))),
-            over(&self.table, |t, _| expect(0, fast::set_up(t, ORDER).refusal)),
-            asking(plain, |plain, _| {
-                plain.set = black_box(Default::default());
+            over(&self.table, |t, _| {
+                expect(0, refusal(btreap::set_up(t, ORDER)))
+            }),
+            over(&self.table, |t, _| {
+                expect(0, fast::set_up(t, ORDER).refusal)
+            }),
+            asking(Plain::new(&[]), |plain, _| {
+                plain.set = black_box(Set::new());
                 assert!(plain.agrees());
             }),
         )
@@ -91,8 +102,12 @@ impl<'a> Lent<'a> {
         let keys = &self.case.keys;
         self.row(
             "build",
-            over(&self.table, |t, _| expect(0, refusal(btreap::build(t, ORDER, keys)))),
-            over(&self.table, |t, _| expect(0, fast::build(t, ORDER, keys).refusal)),
+            over(&self.table, |t, _| {
+                expect(0, refusal(btreap::build(t, ORDER, keys)))
+            }),
+            over(&self.table, |t, _| {
+                expect(0, fast::build(t, ORDER, keys).refusal)
+            }),
             candidate(
                 Plain::new(keys),
                 |plain, _, _| plain.set.clear(),
@@ -109,12 +124,21 @@ impl<'a> Lent<'a> {
     fn insert(&'a self) -> Row<'a> {
         let keys = &self.case.absent;
         let refused = if self.is_full() { TOO_MANY } else { 0 };
-        let call = if self.is_full() { "insert, refused with 10" } else { "insert" };
+        let call = if self.is_full() {
+            "insert, refused with 10"
+        } else {
+            "insert"
+        };
         self.row(
             call,
-            changing(&self.table, move |t, turn| expect(refused, refusal(btreap::insert(t, keys[turn])))),
-            changing(&self.table, move |t, turn| expect(refused, fast::insert(t, keys[turn]).refusal)),
-            self.plain_change(
+            changing(&self.table, move |t, turn| {
+                expect(refused, refusal(btreap::insert(t, keys[turn])))
+            }),
+            changing(&self.table, move |t, turn| {
+                expect(refused, fast::insert(t, keys[turn]).refusal)
+            }),
+            changing_set(
+                &self.case.keys,
                 |set, turn| _ = set.insert(keys[turn]),
                 |set, turn| _ = set.remove(&keys[turn]),
             ),
@@ -126,44 +150,17 @@ impl<'a> Lent<'a> {
         let keys = &self.case.held;
         self.row(
             "delete",
-            changing(&self.table, |t, turn| expect(0, refusal(btreap::delete(t, keys[turn])))),
-            changing(&self.table, |t, turn| expect(0, fast::delete(t, keys[turn]).refusal)),
-            self.plain_change(
+            changing(&self.table, |t, turn| {
+                expect(0, refusal(btreap::delete(t, keys[turn])))
+            }),
+            changing(&self.table, |t, turn| {
+                expect(0, fast::delete(t, keys[turn]).refusal)
+            }),
+            changing_set(
+                &self.case.keys,
                 |set, turn| _ = set.remove(&keys[turn]),
                 |set, turn| _ = set.insert(keys[turn]),
             ),
-        )
-    }
-
-    /// (c) of a change: the set is changed, serialised and compared with a copy
-    /// of what it ought to be now. The copy of each turn is made beforehand, and
-    /// undoing the change is not timed. A full set is not refused.
-    fn plain_change(&'a self, change: impl Fn(&mut Set, usize) + 'a, undo: impl Fn(&mut Set, usize) + 'a) -> Candidate<'a> {
-        let keys = &self.case.keys;
-        let copies: Vec<Vec<u8>> = (0..TURNS)
-            .map(|turn| {
-                let mut set = Plain::new(keys).set;
-                change(&mut set, turn);
-                serialised(&set)
-            })
-            .collect();
-        candidate(
-            Vec::<(Plain, Option<usize>)>::new(),
-            move |sets, _, repeat| {
-                if repeat == sets.len() {
-                    sets.push((Plain::new(keys), None));
-                }
-                let (plain, changed) = &mut sets[repeat];
-                changed.take().into_iter().for_each(|turn| undo(&mut plain.set, turn));
-            },
-            move |sets, turn, repeat| {
-                let turn = turn % TURNS;
-                let (plain, changed) = &mut sets[repeat];
-                change(&mut plain.set, turn);
-                plain.serialise();
-                assert!(plain.room == copies[turn]);
-                *changed = Some(turn);
-            },
         )
     }
 
@@ -174,8 +171,12 @@ impl<'a> Lent<'a> {
         let bytes = serialised(&self.case.keys);
         self.row(
             "read",
-            over(&self.table, |t, _| expect(0, refusal(btreap::read(t, image)))),
-            over(&self.table, |t, _| expect(0, fast::read_image(t, image).refusal)),
+            over(&self.table, |t, _| {
+                expect(0, refusal(btreap::read(t, image)))
+            }),
+            over(&self.table, |t, _| {
+                expect(0, fast::read_image(t, image).refusal)
+            }),
             candidate(
                 Plain::new(&self.case.keys),
                 |plain, _, _| plain.set.clear(),
@@ -194,8 +195,12 @@ impl<'a> Lent<'a> {
         let table = &self.table;
         self.row(
             call,
-            asking((), |_, turn| expect(0, refusal(btreap::look_up(table, keys[turn])))),
-            asking((), |_, turn| expect(0, fast::look_up(table, keys[turn]).refusal)),
+            asking((), |_, turn| {
+                expect(0, refusal(btreap::look_up(table, keys[turn])))
+            }),
+            asking((), |_, turn| {
+                expect(0, fast::look_up(table, keys[turn]).refusal)
+            }),
             asking(Plain::new(&self.case.keys), |plain, turn| {
                 black_box(plain.set.contains(&keys[turn]));
                 assert!(plain.agrees());
@@ -206,7 +211,11 @@ impl<'a> Lent<'a> {
     /// A range of about eight keys from the middle.
     fn small_range(&'a self) -> Row<'a> {
         let middle = self.case.keys.len() / 2;
-        self.range("range, 8 keys", self.case.keys[middle], self.case.keys[middle + 7])
+        self.range(
+            "range, 8 keys",
+            self.case.keys[middle],
+            self.case.keys[middle + 7],
+        )
     }
 
     /// (c): the range of the set is written to the output.
@@ -215,13 +224,22 @@ impl<'a> Lent<'a> {
         let output = || vec![0; self.case.keys.len()];
         self.row(
             call,
-            asking(output(), move |out, _| expect(0, refusal(btreap::range(table, low, high, out)))),
-            asking(output(), move |out, _| expect(0, fast::range(table, low, high, out).refusal)),
-            asking((Plain::new(&self.case.keys), output()), move |(plain, out), _| {
-                let keys = plain.set.range(low..=high);
-                out.iter_mut().zip(keys).for_each(|(word, key)| *word = *key);
-                assert!(plain.agrees());
+            asking(output(), move |out, _| {
+                expect(0, refusal(btreap::range(table, low, high, out)))
             }),
+            asking(output(), move |out, _| {
+                expect(0, fast::range(table, low, high, out).refusal)
+            }),
+            asking(
+                (Plain::new(&self.case.keys), output()),
+                move |(plain, out), _| {
+                    let keys = plain.set.range(low..=high);
+                    out.iter_mut()
+                        .zip(keys)
+                        .for_each(|(word, key)| *word = *key);
+                    assert!(plain.agrees());
+                },
+            ),
         )
     }
 
@@ -252,9 +270,15 @@ impl<'a> Lent<'a> {
         let output = || vec![0; self.image.len()];
         self.row(
             "write",
-            asking(output(), |out, _| expect(0, refusal(btreap::write(table, out)))),
-            asking(output(), |out, _| expect(0, fast::write_image(table, out).refusal)),
-            asking(Plain::new(&self.case.keys), |plain, _| assert!(plain.agrees())),
+            asking(output(), |out, _| {
+                expect(0, refusal(btreap::write(table, out)))
+            }),
+            asking(output(), |out, _| {
+                expect(0, fast::write_image(table, out).refusal)
+            }),
+            asking(Plain::new(&self.case.keys), |plain, _| {
+                assert!(plain.agrees())
+            }),
         )
     }
 
@@ -266,63 +290,19 @@ impl<'a> Lent<'a> {
         let bytes = serialised(&self.case.keys);
         self.row(
             "list",
-            asking(output(), |out, _| expect(0, refusal(btreap::list(image, out)))),
-            asking(output(), |out, _| expect(0, fast::list(image, out).refusal)),
-            asking((Plain::new(&self.case.keys), String::new()), move |(plain, text), _| {
-                plain.deserialise(black_box(&bytes));
-                assert!(plain.agrees());
-                plain.listing(text);
-                black_box(text);
+            asking(output(), |out, _| {
+                expect(0, refusal(btreap::list(image, out)))
             }),
+            asking(output(), |out, _| expect(0, fast::list(image, out).refusal)),
+            asking(
+                (Plain::new(&self.case.keys), String::new()),
+                move |(plain, text), _| {
+                    plain.deserialise(black_box(&bytes));
+                    assert!(plain.agrees());
+                    plain.listing(text);
+                    black_box(text);
+                },
+            ),
         )
     }
-}
-
-/// Candidate (a): the exclusive or of all words of the table.
-fn reading(table: &[u64]) -> Candidate<'_> {
-    asking((), move |_, _| {
-        black_box(black_box(table).iter().fold(0, |all, word| all ^ word));
-    })
-}
-
-// ---------------------------------------------------------------------------
-// How a job is repeated
-
-/// A job that may be done again as things are.
-fn asking<'a, S: 'a>(state: S, mut job: impl FnMut(&mut S, usize) + 'a) -> Candidate<'a> {
-    candidate(state, |_, _, _| (), move |state, turn, _| job(state, turn % TURNS))
-}
-
-/// A job that writes a table afresh, always over the same words.
-fn over<'a>(table: &'a [u64], job: impl FnMut(&mut Vec<u64>, usize) + 'a) -> Candidate<'a> {
-    asking(table.to_vec(), job)
-}
-
-/// A job that changes a table: each repetition has a table of its own, restored
-/// by copying before the clock starts.
-fn changing<'a>(table: &'a [u64], mut job: impl FnMut(&mut [u64], usize) + 'a) -> Candidate<'a> {
-    candidate(
-        Vec::<Vec<u64>>::new(),
-        |tables, _, repeat| {
-            if repeat == tables.len() {
-                tables.push(vec![0; table.len()]);
-            }
-            tables[repeat].copy_from_slice(table);
-        },
-        move |tables, turn, repeat| job(&mut tables[repeat], turn % TURNS),
-    )
-}
-
-// ---------------------------------------------------------------------------
-// Replies
-
-/// The number of a refusal; zero for acceptance.
-fn refusal<T>(reply: Result<T, Refusal>) -> u64 {
-    let number = reply.as_ref().err().map_or(0, |refusal| refusal.number());
-    black_box(reply.ok());
-    number
-}
-
-fn expect(expected: u64, refusal: u64) {
-    assert_eq!(refusal, expected, "a call was refused that should not be, or the reverse");
 }

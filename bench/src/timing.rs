@@ -43,7 +43,8 @@ pub fn medians<const N: usize>(mut candidates: [Candidate; N]) -> [f64; N] {
         if round >= LEAST_ROUNDS && start.elapsed() > ROW {
             break;
         }
-        for ((candidate, &repeats), times) in candidates.iter_mut().zip(&repeats).zip(&mut samples) {
+        for ((candidate, &repeats), times) in candidates.iter_mut().zip(&repeats).zip(&mut samples)
+        {
             times.push(candidate(round, repeats).as_nanos() as f64 / repeats as f64);
         }
     }

@@ -8,8 +8,9 @@ use common::Random;
 use reference::calls::{Place, REAL};
 use reference::fast;
 use reference::image::image;
-use reference::priority::{priority, TIES};
-use reference::table::length_of_slots;
+use reference::priority::{entries, priority, TIES};
+use reference::shape::shape;
+use reference::table::{length_of_slots, slots};
 use reference::Contents;
 
 /// What a call leaves behind: its reply, and the memory that it was lent.
@@ -27,28 +28,42 @@ fn after<R, T: Clone>(before: &[T], call: impl FnOnce(&mut [T]) -> R) -> Left<R,
 
 fn set_up(table: &mut Vec<u64>, order: u64) -> u64 {
     let (reply, words) = after(table, |t| REAL.set_up(t, order));
-    assert_eq!(after(table, |t| fast::set_up(t, order)), (reply, words.clone()));
+    assert_eq!(
+        after(table, |t| fast::set_up(t, order)),
+        (reply, words.clone())
+    );
     *table = words;
     reply.refusal
 }
 
 fn build(table: &mut Vec<u64>, order: u64, list: &[u64]) -> u64 {
     let (reply, words) = after(table, |t| REAL.build(t, order, list));
-    assert_eq!(after(table, |t| fast::build(t, order, list)), (reply, words.clone()));
+    assert_eq!(
+        after(table, |t| fast::build(t, order, list)),
+        (reply, words.clone())
+    );
     *table = words;
     reply.refusal
 }
 
 fn insert(table: &mut Vec<u64>, key: u64) -> u64 {
     let (reply, words) = after(table, |t| REAL.insert(t, key));
-    assert_eq!(after(table, |t| fast::insert(t, key)), (reply, words.clone()), "insert {key}");
+    assert_eq!(
+        after(table, |t| fast::insert(t, key)),
+        (reply, words.clone()),
+        "insert {key}"
+    );
     *table = words;
     reply.refusal
 }
 
 fn delete(table: &mut Vec<u64>, key: u64) -> u64 {
     let (reply, words) = after(table, |t| REAL.delete(t, key));
-    assert_eq!(after(table, |t| fast::delete(t, key)), (reply, words.clone()), "delete {key}");
+    assert_eq!(
+        after(table, |t| fast::delete(t, key)),
+        (reply, words.clone()),
+        "delete {key}"
+    );
     *table = words;
     reply.refusal
 }
@@ -62,7 +77,10 @@ fn look_up(table: &[u64], key: u64) -> u64 {
 fn range(table: &[u64], low: u64, high: u64, room: usize) -> u64 {
     let output = vec![0xEEEE; room];
     let (reply, words) = after(&output, |out| REAL.range(table, low, high, out));
-    assert_eq!(after(&output, |out| fast::range(table, low, high, out)), (reply, words));
+    assert_eq!(
+        after(&output, |out| fast::range(table, low, high, out)),
+        (reply, words)
+    );
     reply.refusal
 }
 
@@ -75,13 +93,19 @@ fn step(table: &[u64], place: Place) -> (u64, bool, Place) {
 fn write(table: &[u64], room: usize) -> (u64, Vec<u8>) {
     let output = vec![0xEE; room];
     let (reply, bytes) = after(&output, |out| REAL.write_image(table, out));
-    assert_eq!(after(&output, |out| fast::write_image(table, out)), (reply, bytes.clone()));
+    assert_eq!(
+        after(&output, |out| fast::write_image(table, out)),
+        (reply, bytes.clone())
+    );
     (reply.refusal, bytes[..reply.length as usize].to_vec())
 }
 
 fn read(table: &mut Vec<u64>, bytes: &[u8]) -> u64 {
     let (reply, words) = after(table, |t| REAL.read_image(t, bytes));
-    assert_eq!(after(table, |t| fast::read_image(t, bytes)), (reply, words.clone()));
+    assert_eq!(
+        after(table, |t| fast::read_image(t, bytes)),
+        (reply, words.clone())
+    );
     *table = words;
     reply.refusal
 }
@@ -181,11 +205,13 @@ fn all_sets_over_a_small_universe() {
         let mut table = vec![0; length_of_slots(7)];
         set_up(&mut table, 3);
         random.shuffle(&mut keys);
-        keys.iter().for_each(|&key| assert_eq!(insert(&mut table, key), 0));
+        keys.iter()
+            .for_each(|&key| assert_eq!(insert(&mut table, key), 0));
         (1..=8).for_each(|key| assert_eq!(look_up(&table, key), 0));
         (0..=8).for_each(|low| assert_eq!(range(&table, low, 8, 7), 0));
         random.shuffle(&mut keys);
-        keys.iter().for_each(|&key| assert_eq!(delete(&mut table, key), 0));
+        keys.iter()
+            .for_each(|&key| assert_eq!(delete(&mut table, key), 0));
     }
 }
 
@@ -293,7 +319,14 @@ fn each_word_changed() {
         let table = random_table(&mut random, 12);
         for i in 0..table.len() {
             let flipped = table[i] ^ 1 << random.below(64);
-            for word in [0, 1, u64::MAX, table[i].wrapping_add(1), table[i].wrapping_sub(1), flipped] {
+            for word in [
+                0,
+                1,
+                u64::MAX,
+                table[i].wrapping_add(1),
+                table[i].wrapping_sub(1),
+                flipped,
+            ] {
                 let mut damaged = table.clone();
                 damaged[i] = word;
                 judged(&damaged);
@@ -342,14 +375,15 @@ fn each_two_slots_exchanged_or_doubled() {
     }
 }
 
-/// All words right for a set in another order of priorities: a tree that is
-/// ordered by key or by priority, but not by both.
+/// Subtrees in each other's places: no longer ordered by key.
 #[test]
 fn subtrees_exchanged_between_parents() {
     let mut random = Random(503);
     for _ in 0..30 {
         let table = random_table(&mut random, 40);
-        let links: Vec<usize> = (3..table.len()).filter(|i| matches!((i - 3) % 6, 1 | 2)).collect();
+        let links: Vec<usize> = (3..table.len())
+            .filter(|i| matches!((i - 3) % 6, 1 | 2))
+            .collect();
         for _ in 0..200 {
             let mut damaged = table.clone();
             for _ in 0..1 + random.below(3) {
@@ -362,12 +396,37 @@ fn subtrees_exchanged_between_parents() {
     }
 }
 
+/// The words for a set in its own slots but with the tree of other priorities:
+/// all is right but that some child outranks its parent.
+#[test]
+fn trees_of_other_priorities() {
+    let mut random = Random(506);
+    let mut unsound = 0;
+    for _ in 0..400 {
+        let keys = random.keys(9);
+        let salt = random.next();
+        let other = move |key: u64| Random(key ^ salt).next();
+        let tree = shape(3, &entries(&other, &keys));
+        let mut table = vec![3, keys.len() as u64, tree.root];
+        for key in slots(&entries(&priority, &keys), 10) {
+            table.extend(match tree.node(key) {
+                None => [0; 6],
+                Some(v) => [v.key, v.left, v.right, v.leader, v.rank, v.count],
+            });
+        }
+        unsound += (judged(&table) == 7) as u64;
+    }
+    assert!(unsound > 200);
+}
+
 #[test]
 fn words_without_meaning() {
     let mut random = Random(504);
     for _ in 0..3_000 {
         let slots = 1 + random.below(6) as usize;
-        let mut table: Vec<u64> = (0..length_of_slots(slots)).map(|_| random.below(4)).collect();
+        let mut table: Vec<u64> = (0..length_of_slots(slots))
+            .map(|_| random.below(4))
+            .collect();
         table[0] = 3;
         judged(&table);
     }
@@ -423,7 +482,14 @@ fn every_refusal() {
     assert_eq!(delete(&mut table, 0), 3);
     assert_eq!(look_up(&table, 0), 3);
     assert_eq!(range(&table, 2, 1, 0), 4);
-    for list in [&[0][..], &[0, 1], &[1, 1], &[1, 2, 2], &[2, 1], &[1, 2, 3, 3]] {
+    for list in [
+        &[0][..],
+        &[0, 1],
+        &[1, 1],
+        &[1, 2, 2],
+        &[2, 1],
+        &[1, 2, 3, 3],
+    ] {
         assert_eq!(build(&mut table, 3, list), 5);
     }
     assert_eq!(build(&mut table, 3, &[1, 2, 3]), 10);
@@ -440,7 +506,10 @@ fn refusals_by_the_state() {
     assert_eq!(delete(&mut table, 5), 9);
     assert_eq!(range(&table, 0, u64::MAX, 1), 11);
     steps(&table, Place::WHOLE);
-    let three = Contents { order: 3, keys: vec![1, 2, 3] };
+    let three = Contents {
+        order: 3,
+        keys: vec![1, 2, 3],
+    };
     let bytes = image(&priority, &three);
     assert_eq!(read(&mut table, &bytes), 10);
     let (_, bytes) = write(&table, 1_000);

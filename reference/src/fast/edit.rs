@@ -3,7 +3,8 @@
 //! change there and in the blocks next to them; slots in the key's cluster.
 
 use super::home::Homes;
-use super::judge::{Judged, Node};
+use super::judged::Judged;
+use super::node::Node;
 use super::record::*;
 use crate::priority::{priority, Entry};
 
@@ -170,9 +171,16 @@ impl<'a> Edit<'a> {
         }
         for &number in touched {
             let parent = *self.record(number);
-            for child in self.children(number).into_iter().filter(|&child| child != NONE) {
+            for child in self
+                .children(number)
+                .into_iter()
+                .filter(|&child| child != NONE)
+            {
                 let rank = self.record(child)[RANK];
-                self.lead(child, leader_below((parent[KEY], parent[RANK]), parent[LEADER], rank));
+                self.lead(
+                    child,
+                    leader_below((parent[KEY], parent[RANK]), parent[LEADER], rank),
+                );
             }
         }
     }

@@ -51,8 +51,15 @@ mod tests {
             let near = multiples.map(|number| number - 1);
             let drawn = (1..50).map(|key| priority(key * slots as u64));
             for number in edges.into_iter().chain(multiples).chain(near).chain(drawn) {
-                let entry = Entry { key: 1, priority: number };
-                assert_eq!(homes.home(number), entry.home(slots), "{number} mod {slots}");
+                let entry = Entry {
+                    key: 1,
+                    priority: number,
+                };
+                assert_eq!(
+                    homes.home(number),
+                    entry.home(slots),
+                    "{number} mod {slots}"
+                );
             }
         }
     }

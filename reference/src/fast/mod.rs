@@ -11,14 +11,18 @@ mod fresh;
 mod home;
 mod image;
 mod judge;
+mod judged;
 mod listing;
+mod node;
+mod placed;
 mod record;
 
 use crate::calls::*;
 use crate::is_order;
 use fresh::Nodes;
 use image::{candidate, rises, Layout, Records};
-use judge::{judge, Judged};
+use judge::judge;
+use judged::Judged;
 use record::{level, slots_of_length, KEY, NONE, RANK};
 
 /// What a call answers inside: its result, or the refusal's number.
@@ -56,7 +60,10 @@ fn ranked(outcome: Outcome<u64>) -> RankReply {
 
 fn sized(outcome: Outcome<usize>) -> LengthReply {
     match outcome {
-        Ok(length) => LengthReply { refusal: 0, length: length as u64 },
+        Ok(length) => LengthReply {
+            refusal: 0,
+            length: length as u64,
+        },
         Err(refusal) => LengthReply { refusal, length: 0 },
     }
 }
@@ -138,7 +145,13 @@ fn try_look_up(table: &[u64], key: u64) -> Outcome<LookUpReply> {
         last_level = this_level;
         if key == here[KEY] {
             let [_, _, _, leader, rank, count] = here;
-            return Ok(LookUpReply { held: true, rank, count, leader, ..reply });
+            return Ok(LookUpReply {
+                held: true,
+                rank,
+                count,
+                leader,
+                ..reply
+            });
         }
         let [left, right] = judged.children[at as usize];
         at = if key < here[KEY] { left } else { right };
@@ -165,7 +178,10 @@ fn try_range(table: &[u64], low: u64, high: u64, output: &mut [u64]) -> Outcome<
 /// "a step 1, 7"; the next place comes with the reply.
 pub fn step(table: &[u64], place: Place) -> (StepReply, Place) {
     try_step(table, place).unwrap_or_else(|refusal| {
-        let reply = StepReply { refusal, ..Default::default() };
+        let reply = StepReply {
+            refusal,
+            ..Default::default()
+        };
         (reply, place)
     })
 }
@@ -176,15 +192,27 @@ fn try_step(table: &[u64], place: Place) -> Outcome<(StepReply, Place)> {
     if place.done {
         return Ok((StepReply::default(), place));
     }
-    let spent = Place { done: true, ..place };
-    Ok(match judged.least_from(place.next).filter(|&key| key <= place.high) {
-        None => (StepReply::default(), spent),
-        Some(key) => {
-            let reply = StepReply { refusal: 0, yielded: true, key };
-            let next = key.checked_add(1).map(|next| Place { next, ..place });
-            (reply, next.unwrap_or(spent))
-        }
-    })
+    let spent = Place {
+        done: true,
+        ..place
+    };
+    Ok(
+        match judged
+            .least_from(place.next)
+            .filter(|&key| key <= place.high)
+        {
+            None => (StepReply::default(), spent),
+            Some(key) => {
+                let reply = StepReply {
+                    refusal: 0,
+                    yielded: true,
+                    key,
+                };
+                let next = key.checked_add(1).map(|next| Place { next, ..place });
+                (reply, next.unwrap_or(spent))
+            }
+        },
+    )
 }
 
 /// "writer 1, 7, 11"
@@ -195,7 +223,12 @@ pub fn write_image(table: &[u64], output: &mut [u8]) -> LengthReply {
 fn try_write_image(table: &[u64], output: &mut [u8]) -> Outcome<usize> {
     length_of(table)?;
     let judged = sound(table)?;
-    let layout = Layout::new(table[record::ORDER], &judged, judged.root(), judged.rising().into_iter());
+    let layout = Layout::new(
+        table[record::ORDER],
+        &judged,
+        judged.root(),
+        judged.rising().into_iter(),
+    );
     let length = layout.length();
     layout.write(output.get_mut(..length).ok_or(OUTPUT_SHORT)?);
     Ok(length)

@@ -47,11 +47,18 @@ pub fn slots_mut(table: &mut [u64]) -> &mut [Record] {
 /// L(r+1) just when c reaches α or it is the root and not alone; there it stands
 /// alone in its subtree, so that it goes no higher.
 #[inline(always)]
-pub fn rank_and_count(order: u64, is_root: bool, left: (u64, u64), right: (u64, u64)) -> (u64, u64) {
+pub fn rank_and_count(
+    order: u64,
+    is_root: bool,
+    left: (u64, u64),
+    right: (u64, u64),
+) -> (u64, u64) {
     let highest = left.0.max(right.0);
     let at_highest = |child: (u64, u64)| if child.0 == highest { child.1 } else { 0 };
     // A child's words may be anything; wrong ones fail at the child itself.
-    let together = at_highest(left).wrapping_add(at_highest(right)).wrapping_add(1);
+    let together = at_highest(left)
+        .wrapping_add(at_highest(right))
+        .wrapping_add(1);
     if (together >= order) | (is_root & (together > 1)) {
         (highest.wrapping_add(1), 1)
     } else {
