@@ -33,22 +33,23 @@ pub fn candidate<'a, S: 'a>(
     })
 }
 
-/// The median time of each candidate in nanoseconds. In each round every
-/// candidate has its turn, so that a change of the machine's speed meets all.
-pub fn medians<const N: usize>(mut candidates: [Candidate; N]) -> [f64; N] {
+/// The least time of each candidate in nanoseconds: what it takes when nothing
+/// interrupts it. In each round every candidate has its turn, so that a change of
+/// the machine's speed meets all.
+pub fn least<const N: usize>(mut candidates: [Candidate; N]) -> [f64; N] {
     let repeats = candidates.each_mut().map(repeats_of);
-    let mut samples: [Vec<f64>; N] = std::array::from_fn(|_| vec![]);
+    let mut least = [f64::INFINITY; N];
     let start = Instant::now();
     for round in 0..MOST_ROUNDS {
         if round >= LEAST_ROUNDS && start.elapsed() > ROW {
             break;
         }
-        for ((candidate, &repeats), times) in candidates.iter_mut().zip(&repeats).zip(&mut samples)
-        {
-            times.push(candidate(round, repeats).as_nanos() as f64 / repeats as f64);
+        for ((candidate, &repeats), least) in candidates.iter_mut().zip(&repeats).zip(&mut least) {
+            let time = candidate(round, repeats).as_nanos() as f64 / repeats as f64;
+            *least = least.min(time);
         }
     }
-    samples.map(median)
+    least
 }
 
 /// How often a candidate repeats its job in a sample, by a first try.
@@ -56,9 +57,4 @@ fn repeats_of(candidate: &mut Candidate) -> usize {
     candidate(0, 1);
     let once = candidate(1, 1).as_nanos().max(1);
     (SAMPLE.as_nanos() / once).clamp(1, MOST_REPEATS as u128) as usize
-}
-
-fn median(mut times: Vec<f64>) -> f64 {
-    times.sort_by(f64::total_cmp);
-    times[times.len() / 2]
 }
