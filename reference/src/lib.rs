@@ -6,6 +6,7 @@
 
 pub mod blocks;
 pub mod calls;
+pub mod fast;
 pub mod image;
 pub mod listing;
 pub mod priority;

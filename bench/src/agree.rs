@@ -1,0 +1,68 @@
+//! Before a case is timed: the library and the second program's fast form must
+//! do the same on it, or their times would not be times of one job.
+
+use crate::case::{Case, ORDER};
+use btreap::Found;
+use reference::fast;
+
+/// Ends the run where a table, an image, a listing or a reply differs.
+pub fn check(case: &Case, table: &[u64], image: &[u8]) {
+    let mut other = vec![0; table.len()];
+    fast::build(&mut other, ORDER, &case.keys);
+    assert!(other == table, "build differs");
+    assert!(output(image.len(), |out| fast::write_image(table, out).length) == image);
+    fast::set_up(&mut other, ORDER);
+    fast::read_image(&mut other, image);
+    assert!(other == table, "read differs");
+    let room = 100 * (case.keys.len() + 1);
+    let text = output(room, |out| fast::list(image, out).length);
+    assert!(text == output(room, |out| btreap::list(image, out).map_or(0, |n| n as u64)));
+    for &key in case.held.iter().chain(&case.absent) {
+        check_look_up(table, key);
+        check_change(
+            table,
+            |t| btreap::insert(t, key),
+            |t| fast::insert(t, key).rank,
+        );
+        check_change(
+            table,
+            |t| btreap::delete(t, key),
+            |t| fast::delete(t, key).rank,
+        );
+    }
+}
+
+/// The bytes that a call writes, as many as it says.
+fn output(room: usize, call: impl FnOnce(&mut [u8]) -> u64) -> Vec<u8> {
+    let mut bytes = vec![0; room];
+    let length = call(&mut bytes);
+    bytes.truncate(length as usize);
+    bytes
+}
+
+fn check_look_up(table: &[u64], key: u64) {
+    let reply = fast::look_up(table, key);
+    let found = match reply.held {
+        true => Found::Held {
+            rank: reply.rank,
+            count: reply.count,
+            leader: reply.leader,
+            blocks: reply.blocks,
+        },
+        false => Found::Absent {
+            blocks: reply.blocks,
+        },
+    };
+    assert_eq!(btreap::look_up(table, key), Ok(found));
+}
+
+/// Both give the same rank, zero when refused, and leave the same words.
+fn check_change(
+    table: &[u64],
+    ours: impl FnOnce(&mut [u64]) -> Result<u64, btreap::Refusal>,
+    fast: impl FnOnce(&mut [u64]) -> u64,
+) {
+    let (mut one, mut other) = (table.to_vec(), table.to_vec());
+    assert_eq!(ours(&mut one).unwrap_or(0), fast(&mut other));
+    assert!(one == other, "a change differs");
+}

@@ -1,0 +1,111 @@
+//! The tables that are measured: how many slots, which keys, and some keys that
+//! are not held.
+
+use crate::random::Random;
+use reference::priority::priority;
+use std::collections::BTreeSet;
+
+/// The order of every table.
+pub const ORDER: u64 = 16;
+
+/// How many keys a row takes in turn, so that no figure hangs on one key.
+pub const TURNS: usize = 16;
+
+pub struct Case {
+    pub name: String,
+    pub slots: usize,
+    /// The held keys, rising.
+    pub keys: Vec<u64>,
+    /// Held keys to look up and to delete.
+    pub held: Vec<u64>,
+    /// Absent keys to look up and to insert.
+    pub absent: Vec<u64>,
+}
+
+/// All cases, in the order of the report.
+pub fn all() -> Vec<Case> {
+    let mut cases: Vec<Case> = [64, 512, 2048, 4000, 4096]
+        .map(|keys| random(4096, keys))
+        .into();
+    cases.push(random(64, 32));
+    cases.push(chain());
+    cases.push(one_home());
+    cases
+}
+
+/// Keys drawn at random.
+fn random(slots: usize, number: usize) -> Case {
+    let mut random = Random(number as u64);
+    let (keys, absent) = distinct(number, || random.next().max(1));
+    let held = (0..TURNS).map(|turn| keys[turn * number / TURNS]).collect();
+    let name = format!("M = {slots}, n = {number}");
+    Case {
+        name,
+        slots,
+        keys,
+        held,
+        absent,
+    }
+}
+
+/// A chain of 4,095 keys: rising keys with falling priorities, so that the treap
+/// is a path. The range of priorities is cut into as many bands as keys are
+/// wanted; going through the keys upward, the next one is the first whose
+/// priority lies in the next lower band. The keys to insert are those that go on
+/// with the chain; those to look up and delete stand at its end.
+fn chain() -> Case {
+    const LENGTH: usize = 4095;
+    let bands = (LENGTH + TURNS) as u64;
+    let width = u64::MAX / bands + 1;
+    let mut keys: Vec<u64> = vec![];
+    let mut candidates = 1..;
+    for band in (0..bands).rev() {
+        keys.extend(candidates.find(|&key| priority(key) / width == band));
+    }
+    let absent = keys.split_off(LENGTH);
+    let held = keys[LENGTH - TURNS..].to_vec();
+    let name = format!("M = 4096, a chain of n = {LENGTH}");
+    Case {
+        name,
+        slots: 4096,
+        keys,
+        held,
+        absent,
+    }
+}
+
+/// 4,000 keys with one home, the middle slot; those to insert have it too.
+fn one_home() -> Case {
+    const SLOTS: usize = 4096;
+    const NUMBER: usize = 4000;
+    let mut random = Random(1);
+    let home = |key: u64| priority(key) / 65_536 % SLOTS as u64;
+    let (keys, absent) = distinct(NUMBER, || loop {
+        let key = random.next();
+        if key != 0 && home(key) == SLOTS as u64 / 2 {
+            return key;
+        }
+    });
+    let held = (0..TURNS).map(|turn| keys[turn * NUMBER / TURNS]).collect();
+    let name = format!("M = {SLOTS}, one home for all n = {NUMBER}");
+    Case {
+        name,
+        slots: SLOTS,
+        keys,
+        held,
+        absent,
+    }
+}
+
+/// So many different keys, rising, and some more that are not among them.
+fn distinct(number: usize, mut draw: impl FnMut() -> u64) -> (Vec<u64>, Vec<u64>) {
+    let mut keys = BTreeSet::new();
+    while keys.len() < number {
+        keys.insert(draw());
+    }
+    let mut absent = BTreeSet::new();
+    while absent.len() < TURNS {
+        absent.extend(Some(draw()).filter(|key| !keys.contains(key)));
+    }
+    (keys.into_iter().collect(), absent.into_iter().collect())
+}

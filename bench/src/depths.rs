@@ -1,0 +1,65 @@
+//! The stack that each call uses.
+
+use crate::case::ORDER;
+use crate::random::Random;
+use crate::stack::depth;
+use btreap::{Place, Refusal, LONGEST_IMAGE, MOST_SLOTS};
+use std::collections::BTreeSet;
+use std::hint::black_box;
+
+/// Measures every call at the greatest table and at a small one, and prints it.
+pub fn print() {
+    let great = depths(MOST_SLOTS);
+    let small = depths(64);
+    println!("| call | bytes of stack, M = n = {MOST_SLOTS} | M = n = 64 |");
+    println!("|---|---:|---:|");
+    for ((call, great), (_, small)) in great.into_iter().zip(small) {
+        println!("| {call} | {great} | {small} |");
+    }
+}
+
+/// Each call's depth on a full table of so many slots. Insert follows delete, so
+/// that there is room.
+fn depths(slots: usize) -> Vec<(&'static str, usize)> {
+    let keys = keys(slots);
+    let key = keys[slots / 2];
+    let mut table = vec![0; btreap::table_words(slots)];
+    let t = &mut table[..];
+    let (mut image, mut text) = (vec![0; LONGEST_IMAGE], vec![0; 100 * (slots + 1)]);
+    let mut words = vec![0; slots];
+    let mut depths = vec![];
+    let mut measure = |call, job: &mut dyn FnMut()| depths.push((call, depth(job)));
+    measure("(no call)", &mut || ());
+    measure("set_up", &mut || done(btreap::set_up(t, ORDER)));
+    measure("build", &mut || done(btreap::build(t, ORDER, &keys)));
+    measure("delete", &mut || done(btreap::delete(t, key)));
+    measure("insert", &mut || done(btreap::insert(t, key)));
+    measure("lookup", &mut || done(btreap::look_up(t, key)));
+    measure("range", &mut || {
+        done(btreap::range(t, 0, u64::MAX, &mut words))
+    });
+    measure("step", &mut || {
+        done(btreap::step(t, &mut Place::new(key, key)))
+    });
+    measure("write", &mut || done(btreap::write(t, &mut image)));
+    let length = btreap::write(t, &mut image).expect("the table is sound");
+    image.truncate(length);
+    measure("read", &mut || done(btreap::read(t, &image)));
+    measure("list", &mut || done(btreap::list(&image, &mut text)));
+    depths
+}
+
+/// So many keys, rising.
+fn keys(number: usize) -> Vec<u64> {
+    let mut random = Random(number as u64);
+    let mut keys = BTreeSet::new();
+    while keys.len() < number {
+        keys.insert(random.next().max(1));
+    }
+    keys.into_iter().collect()
+}
+
+/// A call that is refused ends the run.
+fn done<T>(reply: Result<T, Refusal>) {
+    assert!(black_box(reply).is_ok(), "a call was refused");
+}

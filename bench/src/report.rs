@@ -1,0 +1,54 @@
+//! The report, in Markdown.
+
+use crate::agree;
+use crate::case::{self, Case, ORDER};
+use crate::rows::{Lent, Row};
+use crate::timing::least;
+
+/// Measures every row and prints it.
+pub fn print() {
+    println!("Order {ORDER}. Times are the least of many rounds. The last three columns are multiples of");
+    println!(
+        "(a) reading the table's words once, (b) the same call in the second program's fast form,"
+    );
+    println!("(c) a `BTreeSet<u64>`, serialised whole and compared with a stored copy.");
+    case::all().iter().for_each(print_case);
+}
+
+/// The rows of a case. Reading the words is one job for all of them, so that its
+/// least time over all rows is taken.
+fn print_case(case: &Case) {
+    let lent = Lent::new(case);
+    agree::check(case, &lent.table, &lent.image);
+    let measure = |row: Row| (row.call, least(row.candidates));
+    let rows: Vec<(String, [f64; 4])> = lent.rows().into_iter().map(measure).collect();
+    let words = rows
+        .iter()
+        .map(|row| row.1[1])
+        .fold(f64::INFINITY, f64::min);
+    println!("\n### {}\n", case.name);
+    println!("| call | µs | × (a) | × (b) | × (c) |");
+    println!("|---|---:|---:|---:|---:|");
+    for (call, [ours, _, fast, plain]) in rows {
+        let ratios = [words, fast, plain].map(|other| figures(ours / other));
+        println!(
+            "| {call} | {} | {} |",
+            figures(ours / 1000.0),
+            ratios.join(" | ")
+        );
+    }
+    println!(
+        "\n(a) reads {} words in {} µs.",
+        lent.table.len(),
+        figures(words / 1000.0)
+    );
+}
+
+/// A number with three figures or so.
+fn figures(number: f64) -> String {
+    match number {
+        large if large >= 100.0 => format!("{large:.0}"),
+        middling if middling >= 10.0 => format!("{middling:.1}"),
+        small => format!("{small:.2}"),
+    }
+}

@@ -1,0 +1,308 @@
+//! What is timed for each call, and for the three things that it is compared
+//! with. Outputs and tables are not cleared between calls. Every reply is
+//! looked at: a call that refuses when it should not ends the run.
+
+use crate::candidates::{asking, changing, changing_set, expect, over, reading, refusal};
+use crate::case::{Case, ORDER};
+use crate::plain::{serialised, Plain, Set};
+use crate::timing::{candidate, Candidate};
+use reference::calls::{self, TOO_MANY};
+use reference::fast;
+use std::hint::black_box;
+
+/// One call on one case with its four candidates: the library's call, (a)
+/// reading the table's words once, (b) the second program's fast form, and (c)
+/// a `BTreeSet<u64>` with serialising and comparing.
+pub struct Row<'a> {
+    pub call: String,
+    pub candidates: [Candidate<'a>; 4],
+}
+
+/// A case with the sound table for its keys, its image and its listing's length.
+pub struct Lent<'a> {
+    case: &'a Case,
+    pub table: Vec<u64>,
+    pub image: Vec<u8>,
+    text: usize,
+}
+
+impl<'a> Lent<'a> {
+    pub fn new(case: &'a Case) -> Lent<'a> {
+        let mut table = vec![0; btreap::table_words(case.slots)];
+        btreap::build(&mut table, ORDER, &case.keys).expect("keys rise and have room");
+        let mut image = vec![0; btreap::LONGEST_IMAGE];
+        let length = btreap::write(&table, &mut image).expect("the table is sound");
+        image.truncate(length);
+        let text = btreap::list(&image, &mut vec![0; 100 * (case.keys.len() + 1)])
+            .expect("the image is right");
+        Lent {
+            case,
+            table,
+            image,
+            text,
+        }
+    }
+
+    fn is_full(&self) -> bool {
+        self.case.keys.len() == self.case.slots
+    }
+
+    fn row(
+        &'a self,
+        call: &str,
+        ours: Candidate<'a>,
+        fast: Candidate<'a>,
+        plain: Candidate<'a>,
+    ) -> Row<'a> {
+        Row {
+            call: call.to_string(),
+            candidates: [ours, reading(&self.table), fast, plain],
+        }
+    }
+
+    pub fn rows(&'a self) -> Vec<Row<'a>> {
+        vec![
+            self.set_up(),
+            self.build(),
+            self.insert(),
+            self.delete(),
+            self.look_up("lookup, held", &self.case.held),
+            self.look_up("lookup, absent", &self.case.absent),
+            self.range("range, whole", 0, u64::MAX),
+            self.small_range(),
+            self.step(),
+            self.write(),
+            self.read(),
+            self.list(),
+        ]
+    }
+
+    // -----------------------------------------------------------------------
+    // Calls that change a table
+
+    /// (c): an empty set takes the set's place.
+    fn set_up(&'a self) -> Row<'a> {
+        self.row(
+            "set_up",
+            over(&self.table, |t, _| {
+                expect(0, refusal(btreap::set_up(t, ORDER)))
+            }),
+            over(&self.table, |t, _| {
+                expect(0, fast::set_up(t, ORDER).refusal)
+            }),
+            asking(Plain::new(&[]), |plain, _| {
+                plain.set = black_box(Set::new());
+                assert!(plain.agrees());
+            }),
+        )
+    }
+
+    /// (c): a set is made of the rising keys; dropping the old one is not timed.
+    fn build(&'a self) -> Row<'a> {
+        let keys = &self.case.keys;
+        self.row(
+            "build",
+            over(&self.table, |t, _| {
+                expect(0, refusal(btreap::build(t, ORDER, keys)))
+            }),
+            over(&self.table, |t, _| {
+                expect(0, fast::build(t, ORDER, keys).refusal)
+            }),
+            candidate(
+                Plain::new(keys),
+                |plain, _, _| plain.set.clear(),
+                |plain, _, _| {
+                    plain.set = keys.iter().copied().collect();
+                    assert!(plain.agrees());
+                },
+            ),
+        )
+    }
+
+    /// A fresh key is inserted; the table is restored before by copying it
+    /// whole, which is not timed. A full table refuses with 10.
+    fn insert(&'a self) -> Row<'a> {
+        let keys = &self.case.absent;
+        let refused = if self.is_full() { TOO_MANY } else { 0 };
+        let call = if self.is_full() {
+            "insert, refused with 10"
+        } else {
+            "insert"
+        };
+        self.row(
+            call,
+            changing(&self.table, move |t, turn| {
+                expect(refused, refusal(btreap::insert(t, keys[turn])))
+            }),
+            changing(&self.table, move |t, turn| {
+                expect(refused, fast::insert(t, keys[turn]).refusal)
+            }),
+            changing_set(
+                &self.case.keys,
+                |set, turn| _ = set.insert(keys[turn]),
+                |set, turn| _ = set.remove(&keys[turn]),
+            ),
+        )
+    }
+
+    /// A held key is deleted; restoring as for insert.
+    fn delete(&'a self) -> Row<'a> {
+        let keys = &self.case.held;
+        self.row(
+            "delete",
+            changing(&self.table, |t, turn| {
+                expect(0, refusal(btreap::delete(t, keys[turn])))
+            }),
+            changing(&self.table, |t, turn| {
+                expect(0, fast::delete(t, keys[turn]).refusal)
+            }),
+            changing_set(
+                &self.case.keys,
+                |set, turn| _ = set.remove(&keys[turn]),
+                |set, turn| _ = set.insert(keys[turn]),
+            ),
+        )
+    }
+
+    /// An image is read into a table. (c): the serialised keys are made a set,
+    /// which is serialised and compared.
+    fn read(&'a self) -> Row<'a> {
+        let image = &self.image;
+        let bytes = serialised(&self.case.keys);
+        self.row(
+            "read",
+            over(&self.table, |t, _| {
+                expect(0, refusal(btreap::read(t, image)))
+            }),
+            over(&self.table, |t, _| {
+                expect(0, fast::read_image(t, image).refusal)
+            }),
+            candidate(
+                Plain::new(&self.case.keys),
+                |plain, _, _| plain.set.clear(),
+                move |plain, _, _| {
+                    plain.deserialise(black_box(&bytes));
+                    assert!(plain.agrees());
+                },
+            ),
+        )
+    }
+
+    // -----------------------------------------------------------------------
+    // Calls that only read
+
+    fn look_up(&'a self, call: &str, keys: &'a [u64]) -> Row<'a> {
+        let table = &self.table;
+        self.row(
+            call,
+            asking((), |_, turn| {
+                expect(0, refusal(btreap::look_up(table, keys[turn])))
+            }),
+            asking((), |_, turn| {
+                expect(0, fast::look_up(table, keys[turn]).refusal)
+            }),
+            asking(Plain::new(&self.case.keys), |plain, turn| {
+                black_box(plain.set.contains(&keys[turn]));
+                assert!(plain.agrees());
+            }),
+        )
+    }
+
+    /// A range of about eight keys from the middle.
+    fn small_range(&'a self) -> Row<'a> {
+        let middle = self.case.keys.len() / 2;
+        self.range(
+            "range, 8 keys",
+            self.case.keys[middle],
+            self.case.keys[middle + 7],
+        )
+    }
+
+    /// (c): the range of the set is written to the output.
+    fn range(&'a self, call: &str, low: u64, high: u64) -> Row<'a> {
+        let table = &self.table;
+        let output = || vec![0; self.case.keys.len()];
+        self.row(
+            call,
+            asking(output(), move |out, _| {
+                expect(0, refusal(btreap::range(table, low, high, out)))
+            }),
+            asking(output(), move |out, _| {
+                expect(0, fast::range(table, low, high, out).refusal)
+            }),
+            asking(
+                (Plain::new(&self.case.keys), output()),
+                move |(plain, out), _| {
+                    let keys = plain.set.range(low..=high);
+                    out.iter_mut()
+                        .zip(keys)
+                        .for_each(|(word, key)| *word = *key);
+                    assert!(plain.agrees());
+                },
+            ),
+        )
+    }
+
+    /// One step, from a held key on.
+    fn step(&'a self) -> Row<'a> {
+        let (table, keys) = (&self.table, &self.case.held);
+        self.row(
+            "step",
+            asking((), |_, turn| {
+                let mut place = btreap::Place::new(keys[turn], u64::MAX);
+                expect(0, refusal(btreap::step(table, &mut place)));
+                black_box(place);
+            }),
+            asking((), |_, turn| {
+                let place = calls::Place::new(keys[turn], u64::MAX);
+                expect(0, black_box(fast::step(table, place)).0.refusal);
+            }),
+            asking(Plain::new(&self.case.keys), |plain, turn| {
+                black_box(plain.set.range(keys[turn]..).next());
+                assert!(plain.agrees());
+            }),
+        )
+    }
+
+    /// (c): serialising is the writing.
+    fn write(&'a self) -> Row<'a> {
+        let table = &self.table;
+        let output = || vec![0; self.image.len()];
+        self.row(
+            "write",
+            asking(output(), |out, _| {
+                expect(0, refusal(btreap::write(table, out)))
+            }),
+            asking(output(), |out, _| {
+                expect(0, fast::write_image(table, out).refusal)
+            }),
+            asking(Plain::new(&self.case.keys), |plain, _| {
+                assert!(plain.agrees())
+            }),
+        )
+    }
+
+    /// (c): the serialised keys are made a set, which is serialised, compared
+    /// and listed, one line for each key.
+    fn list(&'a self) -> Row<'a> {
+        let image = &self.image;
+        let output = || vec![0; self.text];
+        let bytes = serialised(&self.case.keys);
+        self.row(
+            "list",
+            asking(output(), |out, _| {
+                expect(0, refusal(btreap::list(image, out)))
+            }),
+            asking(output(), |out, _| expect(0, fast::list(image, out).refusal)),
+            asking(
+                (Plain::new(&self.case.keys), String::new()),
+                move |(plain, text), _| {
+                    plain.deserialise(black_box(&bytes));
+                    assert!(plain.agrees());
+                    plain.listing(text);
+                    black_box(text);
+                },
+            ),
+        )
+    }
+}

@@ -1,0 +1,265 @@
+//! The calls of document 01 once more, as fast as plain Rust does them: the same
+//! words, replies and refusals as [`crate::calls`], to measure speed by. Nothing
+//! is kept between calls: each judges the whole table that it is lent.
+//!
+//! Only the real priority is served. No recursion; room to work in is taken from
+//! the heap.
+
+mod edit;
+mod finder;
+mod fresh;
+mod home;
+mod image;
+mod judge;
+mod judged;
+mod listing;
+mod node;
+mod placed;
+mod record;
+
+use crate::calls::*;
+use crate::is_order;
+use fresh::Nodes;
+use image::{candidate, rises, Layout, Records};
+use judge::judge;
+use judged::Judged;
+use record::{level, slots_of_length, KEY, NONE, RANK};
+
+/// What a call answers inside: its result, or the refusal's number.
+type Outcome<T> = Result<T, u64>;
+
+fn refuse_if(condition: bool, refusal: u64) -> Outcome<()> {
+    if condition {
+        Err(refusal)
+    } else {
+        Ok(())
+    }
+}
+
+/// M, or refusal 1.
+fn length_of(table: &[u64]) -> Outcome<usize> {
+    slots_of_length(table.len()).ok_or(TABLE_LENGTH)
+}
+
+/// What is known of a sound table, or refusal 7.
+fn sound(table: &[u64]) -> Outcome<Judged> {
+    judge(table).ok_or(UNSOUND)
+}
+
+fn plain(outcome: Outcome<()>) -> PlainReply {
+    let refusal = outcome.err().unwrap_or(0);
+    PlainReply { refusal }
+}
+
+fn ranked(outcome: Outcome<u64>) -> RankReply {
+    match outcome {
+        Ok(rank) => RankReply { refusal: 0, rank },
+        Err(refusal) => RankReply { refusal, rank: 0 },
+    }
+}
+
+fn sized(outcome: Outcome<usize>) -> LengthReply {
+    match outcome {
+        Ok(length) => LengthReply {
+            refusal: 0,
+            length: length as u64,
+        },
+        Err(refusal) => LengthReply { refusal, length: 0 },
+    }
+}
+
+/// "Set-up uses 1, 2"
+pub fn set_up(table: &mut [u64], order: u64) -> PlainReply {
+    plain(try_set_up(table, order))
+}
+
+fn try_set_up(table: &mut [u64], order: u64) -> Outcome<()> {
+    length_of(table)?;
+    refuse_if(!is_order(order), ORDER)?;
+    table.fill(0);
+    table[record::ORDER] = order;
+    Ok(())
+}
+
+/// "build 1, 2, 5, 10"
+pub fn build(table: &mut [u64], order: u64, list: &[u64]) -> PlainReply {
+    plain(try_build(table, order, list))
+}
+
+fn try_build(table: &mut [u64], order: u64, list: &[u64]) -> Outcome<()> {
+    let slots = length_of(table)?;
+    refuse_if(!is_order(order), ORDER)?;
+    refuse_if(!rises(list) || list.first() == Some(&0), NOT_RISING)?;
+    refuse_if(list.len() > slots, TOO_MANY)?;
+    Nodes::new(order, [&[0], list].concat()).write_table(table, order);
+    Ok(())
+}
+
+/// "insert 1, 3, 7, 8, 10"
+pub fn insert(table: &mut [u64], key: u64) -> RankReply {
+    ranked(try_insert(table, key))
+}
+
+fn try_insert(table: &mut [u64], key: u64) -> Outcome<u64> {
+    let slots = length_of(table)?;
+    refuse_if(key == 0, KEY_ZERO)?;
+    let mut judged = sound(table)?;
+    refuse_if(judged.find(key).is_some(), HELD)?;
+    refuse_if(judged.number() == slots, TOO_MANY)?;
+    Ok(edit::insert(table, &mut judged, key))
+}
+
+/// "delete 1, 3, 7, 9"
+pub fn delete(table: &mut [u64], key: u64) -> RankReply {
+    ranked(try_delete(table, key))
+}
+
+fn try_delete(table: &mut [u64], key: u64) -> Outcome<u64> {
+    length_of(table)?;
+    refuse_if(key == 0, KEY_ZERO)?;
+    let mut judged = sound(table)?;
+    let number = judged.find(key).ok_or(ABSENT)?;
+    Ok(edit::delete(table, &mut judged, number))
+}
+
+/// "lookup 1, 3, 7"
+pub fn look_up(table: &[u64], key: u64) -> LookUpReply {
+    try_look_up(table, key).unwrap_or_else(|refusal| LookUpReply {
+        refusal,
+        ..Default::default()
+    })
+}
+
+fn try_look_up(table: &[u64], key: u64) -> Outcome<LookUpReply> {
+    length_of(table)?;
+    refuse_if(key == 0, KEY_ZERO)?;
+    let judged = sound(table)?;
+    let k = judged.record(judged.root())[RANK];
+    let (mut at, mut last_level) = (judged.root(), None);
+    let mut reply = LookUpReply::default();
+    while at != NONE {
+        // Levels fall on the way down, so that no block is met twice.
+        let here = judged.record(at);
+        let this_level = Some(level(here[RANK], k));
+        reply.blocks += (this_level != last_level) as u64;
+        last_level = this_level;
+        if key == here[KEY] {
+            let [_, _, _, leader, rank, count] = here;
+            return Ok(LookUpReply {
+                held: true,
+                rank,
+                count,
+                leader,
+                ..reply
+            });
+        }
+        let [left, right] = judged.children[at as usize];
+        at = if key < here[KEY] { left } else { right };
+    }
+    Ok(reply)
+}
+
+/// "range 1, 4, 7, 11"
+pub fn range(table: &[u64], low: u64, high: u64, output: &mut [u64]) -> LengthReply {
+    sized(try_range(table, low, high, output))
+}
+
+fn try_range(table: &[u64], low: u64, high: u64, output: &mut [u64]) -> Outcome<usize> {
+    length_of(table)?;
+    refuse_if(low > high, LOW_ABOVE_HIGH)?;
+    let judged = sound(table)?;
+    let held = judged.nodes[1..].iter().map(|node| node.key);
+    let number = held.filter(|key| (low..=high).contains(key)).count();
+    let output = output.get_mut(..number).ok_or(OUTPUT_SHORT)?;
+    judged.write_keys(low, output);
+    Ok(number)
+}
+
+/// "a step 1, 7"; the next place comes with the reply.
+pub fn step(table: &[u64], place: Place) -> (StepReply, Place) {
+    try_step(table, place).unwrap_or_else(|refusal| {
+        let reply = StepReply {
+            refusal,
+            ..Default::default()
+        };
+        (reply, place)
+    })
+}
+
+fn try_step(table: &[u64], place: Place) -> Outcome<(StepReply, Place)> {
+    length_of(table)?;
+    let judged = sound(table)?;
+    if place.done {
+        return Ok((StepReply::default(), place));
+    }
+    let spent = Place {
+        done: true,
+        ..place
+    };
+    Ok(
+        match judged
+            .least_from(place.next)
+            .filter(|&key| key <= place.high)
+        {
+            None => (StepReply::default(), spent),
+            Some(key) => {
+                let reply = StepReply {
+                    refusal: 0,
+                    yielded: true,
+                    key,
+                };
+                let next = key.checked_add(1).map(|next| Place { next, ..place });
+                (reply, next.unwrap_or(spent))
+            }
+        },
+    )
+}
+
+/// "writer 1, 7, 11"
+pub fn write_image(table: &[u64], output: &mut [u8]) -> LengthReply {
+    sized(try_write_image(table, output))
+}
+
+fn try_write_image(table: &[u64], output: &mut [u8]) -> Outcome<usize> {
+    length_of(table)?;
+    let judged = sound(table)?;
+    let layout = Layout::new(
+        table[record::ORDER],
+        &judged,
+        judged.root(),
+        judged.rising().into_iter(),
+    );
+    let length = layout.length();
+    layout.write(output.get_mut(..length).ok_or(OUTPUT_SHORT)?);
+    Ok(length)
+}
+
+/// "reader 1, 6, 10"
+pub fn read_image(table: &mut [u64], bytes: &[u8]) -> PlainReply {
+    plain(try_read_image(table, bytes))
+}
+
+fn try_read_image(table: &mut [u64], bytes: &[u8]) -> Outcome<()> {
+    let slots = length_of(table)?;
+    let (order, keys) = candidate(bytes).ok_or(IMAGE)?;
+    let nodes = Nodes::new(order, keys);
+    refuse_if(!nodes.layout(order).is_image(bytes), IMAGE)?;
+    refuse_if(nodes.number() > slots, TOO_MANY)?;
+    nodes.write_table(table, order);
+    Ok(())
+}
+
+/// Lists an image of up to 4,096 keys: 6, 11.
+pub fn list(bytes: &[u8], output: &mut [u8]) -> LengthReply {
+    sized(try_list(bytes, output))
+}
+
+fn try_list(bytes: &[u8], output: &mut [u8]) -> Outcome<usize> {
+    let (order, keys) = candidate(bytes).ok_or(IMAGE)?;
+    let nodes = Nodes::new(order, keys);
+    let layout = nodes.layout(order);
+    refuse_if(!layout.is_image(bytes), IMAGE)?;
+    let length = listing::length(&layout);
+    listing::write(&layout, output.get_mut(..length).ok_or(OUTPUT_SHORT)?);
+    Ok(length)
+}

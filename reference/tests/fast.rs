@@ -1,0 +1,539 @@
+//! The fast form agrees with the literal calls: in every reply, in every word of
+//! the table, in every output word and in the place; on random histories, on
+//! damaged tables and images, and under every refusal.
+
+mod common;
+
+use common::Random;
+use reference::calls::{Place, REAL};
+use reference::fast;
+use reference::image::image;
+use reference::priority::{entries, priority, TIES};
+use reference::shape::shape;
+use reference::table::{length_of_slots, slots};
+use reference::Contents;
+
+/// What a call leaves behind: its reply, and the memory that it was lent.
+type Left<R, T> = (R, Vec<T>);
+
+/// The reply of a call, and the words or bytes after it.
+fn after<R, T: Clone>(before: &[T], call: impl FnOnce(&mut [T]) -> R) -> Left<R, T> {
+    let mut memory = before.to_vec();
+    let reply = call(&mut memory);
+    (reply, memory)
+}
+
+// ---------------------------------------------------------------------------
+// Each call by both programs
+
+fn set_up(table: &mut Vec<u64>, order: u64) -> u64 {
+    let (reply, words) = after(table, |t| REAL.set_up(t, order));
+    assert_eq!(
+        after(table, |t| fast::set_up(t, order)),
+        (reply, words.clone())
+    );
+    *table = words;
+    reply.refusal
+}
+
+fn build(table: &mut Vec<u64>, order: u64, list: &[u64]) -> u64 {
+    let (reply, words) = after(table, |t| REAL.build(t, order, list));
+    assert_eq!(
+        after(table, |t| fast::build(t, order, list)),
+        (reply, words.clone())
+    );
+    *table = words;
+    reply.refusal
+}
+
+fn insert(table: &mut Vec<u64>, key: u64) -> u64 {
+    let (reply, words) = after(table, |t| REAL.insert(t, key));
+    assert_eq!(
+        after(table, |t| fast::insert(t, key)),
+        (reply, words.clone()),
+        "insert {key}"
+    );
+    *table = words;
+    reply.refusal
+}
+
+fn delete(table: &mut Vec<u64>, key: u64) -> u64 {
+    let (reply, words) = after(table, |t| REAL.delete(t, key));
+    assert_eq!(
+        after(table, |t| fast::delete(t, key)),
+        (reply, words.clone()),
+        "delete {key}"
+    );
+    *table = words;
+    reply.refusal
+}
+
+fn look_up(table: &[u64], key: u64) -> u64 {
+    let reply = REAL.look_up(table, key);
+    assert_eq!(fast::look_up(table, key), reply, "look up {key}");
+    reply.refusal
+}
+
+fn range(table: &[u64], low: u64, high: u64, room: usize) -> u64 {
+    let output = vec![0xEEEE; room];
+    let (reply, words) = after(&output, |out| REAL.range(table, low, high, out));
+    assert_eq!(
+        after(&output, |out| fast::range(table, low, high, out)),
+        (reply, words)
+    );
+    reply.refusal
+}
+
+fn step(table: &[u64], place: Place) -> (u64, bool, Place) {
+    let (reply, next) = REAL.step(table, place);
+    assert_eq!(fast::step(table, place), (reply, next));
+    (reply.refusal, reply.yielded, next)
+}
+
+fn write(table: &[u64], room: usize) -> (u64, Vec<u8>) {
+    let output = vec![0xEE; room];
+    let (reply, bytes) = after(&output, |out| REAL.write_image(table, out));
+    assert_eq!(
+        after(&output, |out| fast::write_image(table, out)),
+        (reply, bytes.clone())
+    );
+    (reply.refusal, bytes[..reply.length as usize].to_vec())
+}
+
+fn read(table: &mut Vec<u64>, bytes: &[u8]) -> u64 {
+    let (reply, words) = after(table, |t| REAL.read_image(t, bytes));
+    assert_eq!(
+        after(table, |t| fast::read_image(t, bytes)),
+        (reply, words.clone())
+    );
+    *table = words;
+    reply.refusal
+}
+
+fn list(bytes: &[u8], room: usize) -> u64 {
+    let output = vec![0xEE; room];
+    let (reply, text) = after(&output, |out| REAL.list(bytes, out));
+    assert_eq!(after(&output, |out| fast::list(bytes, out)), (reply, text));
+    reply.refusal
+}
+
+// ---------------------------------------------------------------------------
+// Histories
+
+/// All steps from a place to the end.
+fn steps(table: &[u64], mut place: Place) {
+    loop {
+        let (_, yielded, next) = step(table, place);
+        place = next;
+        if !yielded {
+            break;
+        }
+    }
+    step(table, place);
+}
+
+/// A random call, now and then with a bad input.
+fn play(random: &mut Random, table: &mut Vec<u64>, slots: u64) {
+    let key = [0, random.key(2 * slots + 2), random.key(2 * slots + 2)][random.below(3) as usize];
+    let other = random.key(2 * slots + 2);
+    match random.below(20) {
+        0..=5 => drop(insert(table, key)),
+        6..=9 => drop(delete(table, key)),
+        10 | 11 => drop(look_up(table, key)),
+        12 => drop(range(table, key, other, random.below(slots + 2) as usize)),
+        13 => steps(table, Place::new(key, other)),
+        14 => {
+            let (_, bytes) = write(table, 15 + 44 * slots as usize);
+            list(&bytes, 100 + 80 * bytes.len());
+            read(table, &bytes);
+        }
+        15 => {
+            write(table, random.below(60 * slots) as usize);
+        }
+        16 => {
+            let keys = random.keys(slots + 1);
+            build(table, 2 + random.below(5), &keys);
+        }
+        17 => {
+            let mut keys = random.keys(slots);
+            random.shuffle(&mut keys);
+            build(table, 255 + random.below(2), &keys);
+        }
+        18 => {
+            let keys = random.keys(slots + 1);
+            let order = 3 + random.below(253);
+            let bytes = image(&priority, &Contents { order, keys });
+            read(table, &bytes);
+            list(&bytes, random.below(3_000) as usize);
+        }
+        _ => drop(set_up(table, 2 + random.below(255))),
+    }
+}
+
+fn histories(seed: u64, slots: u64, number: u64, calls: u64) {
+    let mut random = Random(seed);
+    for _ in 0..number {
+        let mut table = vec![random.next(); length_of_slots(slots as usize)];
+        set_up(&mut table, 3 + random.below(3));
+        for _ in 0..calls {
+            play(&mut random, &mut table, slots);
+        }
+    }
+}
+
+#[test]
+fn histories_of_small_tables() {
+    for slots in 1..=12 {
+        histories(100 + slots, slots, 30, 120);
+    }
+}
+
+#[test]
+fn histories_of_middling_tables() {
+    histories(201, 64, 2, 120);
+    histories(202, 100, 2, 120);
+    histories(203, 150, 2, 120);
+}
+
+/// Every set over seven keys, reached by inserting in a random order and left by
+/// deleting in another, at the smallest order.
+#[test]
+fn all_sets_over_a_small_universe() {
+    let mut random = Random(300);
+    for set in 0..128u64 {
+        let mut keys: Vec<u64> = (1..=7).filter(|key| set >> (key - 1) & 1 == 1).collect();
+        let mut table = vec![0; length_of_slots(7)];
+        set_up(&mut table, 3);
+        random.shuffle(&mut keys);
+        keys.iter()
+            .for_each(|&key| assert_eq!(insert(&mut table, key), 0));
+        (1..=8).for_each(|key| assert_eq!(look_up(&table, key), 0));
+        (0..=8).for_each(|low| assert_eq!(range(&table, low, 8, 7), 0));
+        random.shuffle(&mut keys);
+        keys.iter()
+            .for_each(|&key| assert_eq!(delete(&mut table, key), 0));
+    }
+}
+
+// ---------------------------------------------------------------------------
+// Great, crowded and deep tables
+
+/// A full table, and one with a little room.
+#[test]
+fn great_tables() {
+    let mut random = Random(400);
+    for (slots, number, order) in [(4096, 4096, 3), (4096, 4000, 16), (1000, 999, 255)] {
+        let keys = distinct(number, || random.next().max(1));
+        great_table(slots, order, &keys);
+    }
+}
+
+/// Keys whose homes are the same, so that they stand in one cluster.
+#[test]
+fn one_home() {
+    for slots in [700, 1024] {
+        let mut key = 0x7000_0000;
+        let keys = distinct(600, || loop {
+            key += 1;
+            if priority(key) / 65_536 % slots as u64 == slots as u64 - 20 {
+                return key;
+            }
+        });
+        great_table(slots, 3, &keys);
+    }
+}
+
+/// Keys whose treap is a path down to the right: each next key is the first
+/// whose priority lies in the next lower band.
+#[test]
+fn a_chain() {
+    const BANDS: u64 = 500;
+    let mut key = 0;
+    let mut keys = vec![];
+    for band in (0..BANDS).rev() {
+        let width = u64::MAX / BANDS;
+        while priority(key) / width != band || key == 0 {
+            key += 1;
+        }
+        keys.push(key);
+        key += 1;
+    }
+    great_table(512, 3, &keys);
+    great_table(500, 7, &keys);
+}
+
+fn distinct(number: usize, mut draw: impl FnMut() -> u64) -> Vec<u64> {
+    let mut keys = std::collections::BTreeSet::new();
+    while keys.len() < number {
+        keys.insert(draw());
+    }
+    keys.into_iter().collect()
+}
+
+fn great_table(slots: usize, order: u64, keys: &[u64]) {
+    let mut table = vec![7; length_of_slots(slots)];
+    assert_eq!(build(&mut table, order, keys), 0);
+    for &key in keys.iter().step_by(keys.len() / 3) {
+        assert_eq!(look_up(&table, key), 0);
+        assert_eq!(look_up(&table, key - 1), 0);
+        assert_eq!(delete(&mut table, key), 0);
+        assert_eq!(insert(&mut table, key), 0);
+    }
+    assert_eq!(range(&table, 0, u64::MAX, keys.len()), 0);
+    assert_eq!(range(&table, keys[3], keys[9], 7), 0);
+    step(&table, Place::new(keys[5] + 1, u64::MAX));
+    let (refusal, bytes) = write(&table, 15 + 44 * slots);
+    assert_eq!(refusal, 0);
+    assert_eq!(list(&bytes, 100 * keys.len() + 100), 0);
+    table.fill(1);
+    assert_eq!(read(&mut table, &bytes), 0);
+}
+
+// ---------------------------------------------------------------------------
+// Damage
+
+/// One call of each kind that judges the table.
+fn judged(table: &[u64]) -> u64 {
+    let refusal = look_up(table, 5);
+    range(table, 0, u64::MAX, table.len());
+    step(table, Place::WHOLE);
+    step(table, Place::SPENT);
+    write(table, 60 * table.len());
+    insert(&mut table.to_vec(), 6);
+    delete(&mut table.to_vec(), 6);
+    refusal
+}
+
+fn random_table(random: &mut Random, most: u64) -> Vec<u64> {
+    let slots = 1 + random.below(most);
+    let mut table = vec![0; length_of_slots(slots as usize)];
+    let keys = random.keys(slots);
+    assert_eq!(build(&mut table, 3 + random.below(2), &keys), 0);
+    table
+}
+
+#[test]
+fn each_word_changed() {
+    let mut random = Random(500);
+    for _ in 0..60 {
+        let table = random_table(&mut random, 12);
+        for i in 0..table.len() {
+            let flipped = table[i] ^ 1 << random.below(64);
+            for word in [
+                0,
+                1,
+                u64::MAX,
+                table[i].wrapping_add(1),
+                table[i].wrapping_sub(1),
+                flipped,
+            ] {
+                let mut damaged = table.clone();
+                damaged[i] = word;
+                judged(&damaged);
+            }
+        }
+    }
+}
+
+/// Exchanged words make links that cross, keys in each other's slots, and cycles.
+#[test]
+fn each_two_words_exchanged() {
+    let mut random = Random(501);
+    let mut unsound = 0;
+    for _ in 0..12 {
+        let table = random_table(&mut random, 12);
+        for i in 0..table.len() {
+            for j in 0..i {
+                let mut damaged = table.clone();
+                damaged.swap(i, j);
+                unsound += (judged(&damaged) == 7) as u64;
+            }
+        }
+    }
+    assert!(unsound > 1_000);
+}
+
+/// Whole slots exchanged, moved or doubled: every node is right, its slot not.
+#[test]
+fn each_two_slots_exchanged_or_doubled() {
+    let mut random = Random(502);
+    for _ in 0..40 {
+        let table = random_table(&mut random, 14);
+        let slots = (table.len() - 3) / 6;
+        for a in 0..slots {
+            for b in 0..slots {
+                let mut damaged = table.clone();
+                (0..6).for_each(|word| damaged.swap(3 + 6 * a + word, 3 + 6 * b + word));
+                judged(&damaged);
+                damaged = table.clone();
+                damaged.copy_within(3 + 6 * a..9 + 6 * a, 3 + 6 * b);
+                judged(&damaged);
+                damaged[1] += 1;
+                judged(&damaged);
+            }
+        }
+    }
+}
+
+/// Subtrees in each other's places: no longer ordered by key.
+#[test]
+fn subtrees_exchanged_between_parents() {
+    let mut random = Random(503);
+    for _ in 0..30 {
+        let table = random_table(&mut random, 40);
+        let links: Vec<usize> = (3..table.len())
+            .filter(|i| matches!((i - 3) % 6, 1 | 2))
+            .collect();
+        for _ in 0..200 {
+            let mut damaged = table.clone();
+            for _ in 0..1 + random.below(3) {
+                let draw = |random: &mut Random| links[random.below(links.len() as u64) as usize];
+                let (a, b) = (draw(&mut random), draw(&mut random));
+                damaged.swap(a, b);
+            }
+            judged(&damaged);
+        }
+    }
+}
+
+/// The words for a set in its own slots but with the tree of other priorities:
+/// all is right but that some child outranks its parent.
+#[test]
+fn trees_of_other_priorities() {
+    let mut random = Random(506);
+    let mut unsound = 0;
+    for _ in 0..400 {
+        let keys = random.keys(9);
+        let salt = random.next();
+        let other = move |key: u64| Random(key ^ salt).next();
+        let tree = shape(3, &entries(&other, &keys));
+        let mut table = vec![3, keys.len() as u64, tree.root];
+        for key in slots(&entries(&priority, &keys), 10) {
+            table.extend(match tree.node(key) {
+                None => [0; 6],
+                Some(v) => [v.key, v.left, v.right, v.leader, v.rank, v.count],
+            });
+        }
+        unsound += (judged(&table) == 7) as u64;
+    }
+    assert!(unsound > 200);
+}
+
+#[test]
+fn words_without_meaning() {
+    let mut random = Random(504);
+    for _ in 0..3_000 {
+        let slots = 1 + random.below(6) as usize;
+        let mut table: Vec<u64> = (0..length_of_slots(slots))
+            .map(|_| random.below(4))
+            .collect();
+        table[0] = 3;
+        judged(&table);
+    }
+}
+
+#[test]
+fn damaged_images() {
+    let mut random = Random(505);
+    for _ in 0..25 {
+        let mut table = random_table(&mut random, 12);
+        let (_, bytes) = write(&table, 1_000);
+        for i in 0..bytes.len() {
+            for flip in [1, 1 << random.below(8), 0xFF] {
+                let mut damaged = bytes.clone();
+                damaged[i] ^= flip;
+                read(&mut table, &damaged);
+                list(&damaged, 2_000);
+            }
+            read(&mut table, &bytes[..i]);
+            list(&bytes[..i], 2_000);
+        }
+        for more in [&[0][..], b"LB", b"LN", &bytes, &[0; 14]] {
+            let longer = [&bytes, more].concat();
+            assert_eq!(read(&mut table, &longer), 6);
+            assert_eq!(list(&longer, 2_000), 6);
+        }
+    }
+}
+
+// ---------------------------------------------------------------------------
+// Refusals
+
+#[test]
+fn every_refusal() {
+    let mut table = vec![9; length_of_slots(2)];
+    for length in [0, 1, 2, 3, 8, 10, 14, 24_578, 24_580, 24_585] {
+        let mut wrong = vec![0; length];
+        assert_eq!(set_up(&mut wrong, 2), 1);
+        assert_eq!(build(&mut wrong, 2, &[0]), 1);
+        assert_eq!(insert(&mut wrong, 0), 1);
+        assert_eq!(delete(&mut wrong, 0), 1);
+        assert_eq!(look_up(&wrong, 0), 1);
+        assert_eq!(range(&wrong, 2, 1, 0), 1);
+        assert_eq!(step(&wrong, Place::SPENT).0, 1);
+        assert_eq!(write(&wrong, 0).0, 1);
+        assert_eq!(read(&mut wrong, &[]), 1);
+    }
+    for order in [0, 1, 2, 256, u64::MAX] {
+        assert_eq!(set_up(&mut table, order), 2);
+        assert_eq!(build(&mut table, order, &[0, 0]), 2);
+    }
+    assert_eq!(insert(&mut table, 0), 3);
+    assert_eq!(delete(&mut table, 0), 3);
+    assert_eq!(look_up(&table, 0), 3);
+    assert_eq!(range(&table, 2, 1, 0), 4);
+    for list in [
+        &[0][..],
+        &[0, 1],
+        &[1, 1],
+        &[1, 2, 2],
+        &[2, 1],
+        &[1, 2, 3, 3],
+    ] {
+        assert_eq!(build(&mut table, 3, list), 5);
+    }
+    assert_eq!(build(&mut table, 3, &[1, 2, 3]), 10);
+    assert_eq!(read(&mut table, &[]), 6);
+    assert_eq!(judged(&table), 7);
+}
+
+#[test]
+fn refusals_by_the_state() {
+    let mut table = vec![9; length_of_slots(2)];
+    assert_eq!(build(&mut table, 3, &[4, u64::MAX]), 0);
+    assert_eq!(insert(&mut table, 4), 8);
+    assert_eq!(insert(&mut table, 5), 10);
+    assert_eq!(delete(&mut table, 5), 9);
+    assert_eq!(range(&table, 0, u64::MAX, 1), 11);
+    steps(&table, Place::WHOLE);
+    let three = Contents {
+        order: 3,
+        keys: vec![1, 2, 3],
+    };
+    let bytes = image(&priority, &three);
+    assert_eq!(read(&mut table, &bytes), 10);
+    let (_, bytes) = write(&table, 1_000);
+    assert_eq!(write(&table, bytes.len() - 1).0, 11);
+    assert_eq!(write(&table, bytes.len()).0, 0);
+    let length = REAL.list(&bytes, &mut [0; 1_000]).length as usize;
+    assert_eq!(list(&bytes, length - 1), 11);
+    assert_eq!(list(&bytes, length), 0);
+}
+
+/// Keys of equal priority: the lesser one outranks, in the treap and in slots.
+#[test]
+fn real_ties() {
+    for slots in [2, 3, 16, 17] {
+        let mut table = vec![0; length_of_slots(slots)];
+        set_up(&mut table, 3);
+        for (lesser, greater) in TIES {
+            insert(&mut table, greater);
+            insert(&mut table, lesser);
+            judged(&table);
+            if slots < 16 {
+                delete(&mut table, lesser);
+                delete(&mut table, greater);
+            }
+        }
+    }
+}
