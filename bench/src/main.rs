@@ -3,6 +3,7 @@
 mod agree;
 mod candidates;
 mod case;
+mod clock;
 mod depths;
 mod plain;
 mod random;

@@ -1,5 +1,6 @@
 //! Times of several candidates for one job, measured in turn within one run.
 
+use crate::clock::thread_time;
 use std::time::{Duration, Instant};
 
 /// A candidate: told which turn it is, it does the job that many times, of
@@ -8,10 +9,10 @@ pub type Candidate<'a> = Box<dyn FnMut(usize, usize) -> Duration + 'a>;
 
 /// A sample repeats a short job until it lasts about this long, so that reading
 /// the clock does not count.
-const SAMPLE: Duration = Duration::from_micros(20);
+const SAMPLE: Duration = Duration::from_micros(30);
 
 /// The most repetitions in a sample.
-const MOST_REPEATS: usize = 64;
+const MOST_REPEATS: usize = 1000;
 
 /// A row goes on for about this long, within these numbers of rounds.
 const ROW: Duration = Duration::from_millis(900);
@@ -27,14 +28,14 @@ pub fn candidate<'a, S: 'a>(
 ) -> Candidate<'a> {
     Box::new(move |turn, repeats| {
         (0..repeats).for_each(|repeat| prepare(&mut state, turn, repeat));
-        let start = Instant::now();
+        let start = thread_time();
         (0..repeats).for_each(|repeat| job(&mut state, turn, repeat));
-        start.elapsed()
+        thread_time() - start
     })
 }
 
 /// The least time of each candidate in nanoseconds: what it takes when nothing
-/// interrupts it. In each round every candidate has its turn, so that a change of
+/// disturbs it. In each round every candidate has its turn, so that a change of
 /// the machine's speed meets all.
 pub fn least<const N: usize>(mut candidates: [Candidate; N]) -> [f64; N] {
     let repeats = candidates.each_mut().map(repeats_of);
