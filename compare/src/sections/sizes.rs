@@ -46,9 +46,27 @@ fn each_call(case: &mut Case, slots: usize, number: usize) {
         let held = case.random.pick(&keys);
         exercise::look_up(case, &[held]);
         exercise::take_out_and_put_back(case, &[held]);
+        ranges(case, &keys);
     }
     outputs(case, order, &keys);
     exercise::read(case, slots, order, &keys);
+}
+
+/// Ranges from a held key to another, each just fitting; of one key alone, also
+/// the first and the last.
+fn ranges(case: &mut Case, keys: &[u64]) {
+    let last = keys.len() - 1;
+    let (i, j) = (case.random.below(last + 1), case.random.below(last + 1));
+    for (i, j) in [
+        (i.min(j), i.max(j)),
+        (i, i),
+        (0, 0),
+        (last, last),
+        (0, last),
+    ] {
+        let (low, high, room) = (keys[i], keys[j], j - i + 1);
+        case.refused(Call::Range { low, high, room }, 0);
+    }
 }
 
 /// All that is written of the table, each just fitting.
