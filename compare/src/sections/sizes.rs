@@ -3,7 +3,7 @@
 //! large ones apart, this is where it might go wrong.
 
 use super::{exercise, Section};
-use crate::call::Call;
+use crate::call::{Call, Place};
 use crate::case::{Case, Tally};
 use crate::tables::{image_of, listing_length};
 use reference::MOST_SLOTS;
@@ -32,7 +32,7 @@ fn about_powers_of_two() -> impl Iterator<Item = usize> {
     about.filter(|&number| number <= MOST_SLOTS)
 }
 
-/// One of each kind, and the insert and the delete to and fro.
+/// Calls of each kind, most of them on a table with so many keys.
 fn each_call(case: &mut Case, slots: usize, number: usize) {
     let order = case.random.order();
     let mut keys = case.random.keys(number + 1);
@@ -48,6 +48,7 @@ fn each_call(case: &mut Case, slots: usize, number: usize) {
         exercise::take_out_and_put_back(case, &[held]);
         ranges(case, &keys);
     }
+    exercise::steps(case, Place::WHOLE, 2);
     outputs(case, order, &keys);
     exercise::read(case, slots, order, &keys);
 }
