@@ -3,7 +3,7 @@
 //! large ones apart, this is where it might go wrong.
 
 use super::{exercise, Section};
-use crate::call::Call;
+use crate::call::{Call, Place};
 use crate::case::{Case, Tally};
 use crate::tables::{image_of, listing_length};
 use reference::MOST_SLOTS;
@@ -32,7 +32,7 @@ fn about_powers_of_two() -> impl Iterator<Item = usize> {
     about.filter(|&number| number <= MOST_SLOTS)
 }
 
-/// One of each kind, and the insert and the delete to and fro.
+/// Calls of each kind, most of them on a table with so many keys.
 fn each_call(case: &mut Case, slots: usize, number: usize) {
     let order = case.random.order();
     let mut keys = case.random.keys(number + 1);
@@ -46,9 +46,28 @@ fn each_call(case: &mut Case, slots: usize, number: usize) {
         let held = case.random.pick(&keys);
         exercise::look_up(case, &[held]);
         exercise::take_out_and_put_back(case, &[held]);
+        ranges(case, &keys);
     }
+    exercise::steps(case, Place::WHOLE, 2);
     outputs(case, order, &keys);
     exercise::read(case, slots, order, &keys);
+}
+
+/// Ranges from a held key to another, each just fitting; of one key alone, also
+/// the first and the last.
+fn ranges(case: &mut Case, keys: &[u64]) {
+    let last = keys.len() - 1;
+    let (i, j) = (case.random.below(last + 1), case.random.below(last + 1));
+    for (i, j) in [
+        (i.min(j), i.max(j)),
+        (i, i),
+        (0, 0),
+        (last, last),
+        (0, last),
+    ] {
+        let (low, high, room) = (keys[i], keys[j], j - i + 1);
+        case.refused(Call::Range { low, high, room }, 0);
+    }
 }
 
 /// All that is written of the table, each just fitting.
