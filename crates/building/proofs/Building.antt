@@ -1,20 +1,19 @@
 -- What the tests of a build say of its reply and of the words after it. Assumes nothing.
-use mathlib.Core.Bool.{Bool, true, false}
-use mathlib.Core.List.{List, [], _∷_}
+use mathlib.Core.Bool.{true, false}
+use mathlib.Core.List.{List}
 use mathlib.Core.Logic.{_≢_}
-use mathlib.Core.Path.{_≡_, refl, sym, ap, _∙_}
+use mathlib.Core.Path.{_≡_, ap, _∙_}
 use Prim.Native.Nat.{ℕ, _<_, _≤_}
 use native.Mathlib.Omega.{arith}
 use lib.Dec.{eqb, ltb}
 use lib.ListN.{length}
 use borrow.Author.Tests.{ne-eqb, lt-ltb, le-ltb}
-use Rattle.lists.proofs.Tests.{lies-says}
-use Rattle.table.specs.Layout.{mostSlots, leastOrder, greatestOrder}
+use Rattle.table.specs.Layout.{mostSlots}
 use Rattle.table.specs.Contents.{Contents, tableOrder, newOrder, risingKeys}
 use Rattle.table.specs.Table.{fresh}
 use Rattle.limits.specs.Lengths.{slotsFor}
-use Rattle.limits.proofs.Lengths.{SlotsOf, slots-for-some}
 use Rattle.prepare.specs.Prepared.{Keys}
+use Rattle.prepare.proofs.Writable.{writable}
 use Rattle.replies.specs.Replies.{builtOf}
 use Rattle.replies.specs.declared.Refusal.the-variants.{WrongLength, WrongOrder, NotRising, TooManyKeys}
 use Rattle.replies.specs.declared.Built.{Built}
@@ -63,13 +62,4 @@ module _ (words : List ℕ) (order : ℕ) (list : List ℕ) where
 
         pub can-be-written : many ≤ mostSlots → length list ≤ many → Keys order list
         unfolding newOrder tableOrder
-        can-be-written most fit =
-            let within = lies-says leastOrder greatestOrder order right in
-            let keys = rising-says list rise in
-            record {
-              wide = omega (arith, within .0);
-              narrow = within .1;
-              rising = keys .0;
-              some = keys .1;
-              few = omega arith;
-            }
+        can-be-written most fit = let keys = rising-says list rise in writable order list right (keys .0) (keys .1) (omega arith)

@@ -1,22 +1,20 @@
 -- What a table may hold, with a key more and with a key less, is again what a table may hold. Assumes nothing.
-use mathlib.Core.Bool.{Bool, true, false, not}
+use mathlib.Core.Bool.{true, false, not}
 use mathlib.Core.List.{List, [], _∷_, Permᴰ·symm}
 use mathlib.Core.Logic.{_≢_}
-use mathlib.Core.Path.{_≡_, refl, sym, ap, _∙_, subst}
-use Prim.Native.Nat.{ℕ, suc, _<_, _≤_}
+use mathlib.Core.Path.{_≡_}
+use Prim.Native.Nat.{ℕ, suc, _<_}
 use native.Mathlib.Omega.{arith}
 use lib.Dec.{eqb, ltb}
 use lib.ListN.{length}
 use borrow.Author.Tests.{ltb-true, ltb-false, eqb-false}
-use Rattle.lists.specs.Lists.{All, Pairwise, Rising, member, insertBy}
-use Rattle.lists.proofs.Tests.{by-test, or-true-left, or-true-right, or-false-left, or-false-right, lies-says}
+use Rattle.lists.specs.Lists.{All, Rising, member, insertBy}
+use Rattle.lists.proofs.Tests.{by-test, or-true-left, or-true-right, or-false-left, or-false-right}
 use Rattle.lists.proofs.Keep.{all-map, all-keep, length-keep}
 use Rattle.lists.proofs.Membership.{eqb-same}
 use Rattle.lists.proofs.Pairwise.{pairwise-keep}
 use Rattle.lists.proofs.Sorting.{all-permuted, length-permuted, insertBy-permutes}
-use Rattle.table.specs.Layout.{mostSlots, leastOrder, greatestOrder}
-use Rattle.table.specs.Contents.{Contents, tableOrder, IsKey, Valid}
-use Rattle.prepare.specs.Prepared.{Keys}
+use Rattle.table.specs.Contents.{Contents, IsKey, Valid}
 use Rattle.edit.specs.Edit.{joined, without}
 
 -- ---- a key more
@@ -71,16 +69,3 @@ module _ (key : ℕ) where
         keys-rise = pairwise-keep _<_ (λ k. not (eqb k key)) (c .keys) (valid .keys-rise);
         keys-fit = omega (arith, valid .keys-fit, length-keep (λ k. not (eqb k key)) (c .keys));
       }
-
--- ---- what a table may hold can be written
-pub valid-keys : (many : ℕ) (c : Contents) → many ≤ mostSlots → Valid many c → Keys (c .order) (c .keys)
-unfolding tableOrder
-valid-keys many c most valid =
-    let within = lies-says leastOrder greatestOrder (c .order) (valid .order-right) in
-    record {
-      wide = omega (arith, within .0);
-      narrow = within .1;
-      rising = valid .keys-rise;
-      some = all-map IsKey (λ k. 1 ≤ k) (λ k h. h .0) (c .keys) (valid .keys-right);
-      few = omega (arith, valid .keys-fit);
-    }

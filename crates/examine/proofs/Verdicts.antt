@@ -6,7 +6,6 @@ use Prim.Native.Nat.{ℕ, _≤_}
 use native.Mathlib.Omega.{arith}
 use lib.ListN.{length, getD, take}
 use Rattle.lists.specs.Lists.{lies, risesB, same, overwrite}
-use Rattle.lists.proofs.Tests.{lies-says}
 use Rattle.lists.proofs.Rising.{rises-says}
 use Rattle.lists.proofs.Start.{starts-with}
 use Rattle.table.specs.Layout.{mostSlots, leastOrder, greatestOrder, orderWord}
@@ -15,6 +14,7 @@ use Rattle.table.specs.Table.{fresh, contentsOf}
 use Rattle.table.specs.Sound.{soundWith}
 use Rattle.table.proofs.Soundness.{shown-fit, shown-nonzero}
 use Rattle.prepare.specs.Prepared.{Keys}
+use Rattle.prepare.proofs.Writable.{writable}
 use Rattle.examine.specs.declared.Verdict.{Verdict}
 use Rattle.examine.specs.declared.Verdict.the-variants.{Sound, Unsound}
 use Rattle.examine.specs.Examine.{verdictOf}
@@ -82,14 +82,8 @@ module _ (many : ℕ) (words : List ℕ) where
   pub can-be-compared : many ≤ mostSlots → lies leastOrder greatestOrder (getD words orderWord 0) ≡ true
       → risesB (contentsOf many words .keys) ≡ true → Keys (getD words orderWord 0) (contentsOf many words .keys)
   can-be-compared few right e =
-      let within = lies-says leastOrder greatestOrder (getD words orderWord 0) right in
-      record {
-        wide = omega (arith, within .0);
-        narrow = within .1;
-        rising = rises-says (contentsOf many words .keys) e;
-        some = shown-nonzero many words;
-        few = omega (arith, shown-fit many words);
-      }
+      writable (getD words orderWord 0) (contentsOf many words .keys) right (rises-says (contentsOf many words .keys) e) (shown-nonzero many words)
+      (omega (arith, shown-fit many words))
 
   pub compared : (order : ℕ) (keys : List ℕ) (slots : ℕ) → order ≡ getD words orderWord 0 → keys ≡ contentsOf many words .keys → slots ≡ many
       → same words (fresh slots (record { order = order; keys = keys })) ≡ same words (fresh many (contentsOf many words))

@@ -5,6 +5,7 @@ use mathlib.Core.Path.{_≡_}
 use Prim.Native.Nat.{ℕ, _^_, _<_}
 use Rattle.lists.specs.Lists.{All}
 use Rattle.table.specs.Contents.{newOrder}
+use Rattle.image.specs.Layout.{IsByte}
 use Rattle.replies.specs.Replies.{Reply}
 use Rattle.calls.specs.Calls.{setUpAfter, setUpReply, buildAfter, buildReply, readAfter, readReply, insertAfter, insertReply, deleteAfter, deleteReply, lookupReply, rangeReply, rangeOutput, writeReply, writeOutput}
 use Rattle.steps.specs.Steps.{stepReply}
@@ -23,12 +24,9 @@ pub data Call : Type 0 where
   writing : (output : List ℕ) → Call
   step : (place : Place) → Call
 
--- What can be lent as a word, and as a byte: nothing more is asked of inputs.
+-- What can be lent as a word; what can be lent as a byte is `IsByte`. Nothing more is asked of inputs.
 abbrev pub IsWord : ℕ → Type 0
 IsWord n = n < 2 ^ 64
-
-abbrev pub IsByte : ℕ → Type 0
-IsByte n = n < 256
 
 abbrev pub Lent : Call → Type 0
 Lent (setUp order) = IsWord order

@@ -14,7 +14,8 @@ use Rattle.image.specs.Image.{imageOf, readImage, isImage}
 use Rattle.calls.specs.Calls.{setUpRefusal, writeRefusal, writeReply, writeOutput}
 use Rattle.steps.specs.Steps.{stepPlace}
 use Rattle.steps.specs.declared.Place.{Place}
-use Rattle.history.specs.Call.{Call, IsByte, History, callsOf, runs, reply, output}
+use Rattle.history.specs.Call.{Call, History, callsOf, runs, reply, output}
+use Rattle.image.specs.Layout.{IsByte}
 use Rattle.history.specs.Book.{withKey, withoutKey, notes, bookOf, replyBy, outputBy, placeBy}
 
 -- "A table has M slots, M from 1 to 4,096, and lives in lent 64-bit words, 3 + 6·M of them": any words of that number.

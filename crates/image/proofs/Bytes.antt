@@ -10,10 +10,7 @@ use lib.Seq.{take-at, drop-at, take-append-le, drop-append-le, drop-append-add}
 use Rattle.lists.specs.Lists.{All}
 use Rattle.treap.specs.Image.{littleEndian}
 use Rattle.image.specs.Image.{numberOf, fieldAt}
-
--- The number is a byte.
-abbrev pub IsByte : ℕ → Type 0
-IsByte b = b < 256
+use Rattle.image.specs.Layout.{IsByte}
 
 -- ---- a number in bytes
 pub littleEndian-length : (width n : ℕ) → length (littleEndian width n) ≡ width

@@ -16,9 +16,9 @@ use Rattle.lists.proofs.Sorted.{sorted-all}
 use Rattle.treap.specs.Image.{countBytes, keyBytes}
 use Rattle.table.specs.Layout.{mostSlots}
 use Rattle.table.specs.Contents.{Contents, IsKey, Valid, tableOrder}
-use Rattle.image.specs.Layout.{headerBytes, blockBytes, nodeBytes, blocksAt, heldAt, keyAt}
+use Rattle.image.specs.Layout.{headerBytes, blockBytes, nodeBytes, blocksAt, heldAt, keyAt, IsByte}
 use Rattle.image.specs.Image.{imageOf, fieldAt, nodeKeys, blockKeys, readImage, isImage}
-use Rattle.image.proofs.Bytes.{IsByte, all-drop, field-fits}
+use Rattle.image.proofs.Bytes.{all-drop, field-fits}
 use Rattle.image.proofs.Reading.{read-of-image}
 
 -- ---- the keys that bytes show are 64-bit numbers

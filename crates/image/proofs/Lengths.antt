@@ -16,9 +16,8 @@ use Rattle.treap.specs.Image.{headerRecord, blockRecord, nodeOf, blockPart, ima
 use Rattle.structure.proofs.ImageOrder.{held-total, blocks-few}
 use Rattle.table.specs.Layout.{mostSlots, leastOrder, greatestOrder}
 use Rattle.table.specs.Contents.{Contents, Valid, tableOrder}
-use Rattle.image.specs.Layout.{blockBytes, nodeBytes, imageBytes}
+use Rattle.image.specs.Layout.{blockBytes, nodeBytes, imageBytes, IsByte}
 use Rattle.image.specs.Image.{imageOf}
-use Rattle.image.proofs.Bytes.{IsByte}
 use Rattle.image.proofs.Records.{header-length, block-length, node-length, header-bytes, block-bytes, node-bytes}
 
 -- "The order α is 3 to 255."

@@ -8,9 +8,9 @@ use lib.ListN.{length, drop}
 use Rattle.lists.specs.Lists.{All}
 use Rattle.lists.proofs.Keep.{all-append}
 use Rattle.treap.specs.Image.{littleEndian, orderBytes, countBytes, keyBytes, headerMark, blockMark, nodeMark, headerRecord, blockRecord, nodeRecord}
-use Rattle.image.specs.Layout.{headerBytes, blockBytes, nodeBytes, orderAt, blocksAt, heldAt, keyAt}
+use Rattle.image.specs.Layout.{headerBytes, blockBytes, nodeBytes, orderAt, blocksAt, heldAt, keyAt, IsByte}
 use Rattle.image.specs.Image.{fieldAt}
-use Rattle.image.proofs.Bytes.{IsByte, littleEndian-bytes, number-of-bytes}
+use Rattle.image.proofs.Bytes.{littleEndian-bytes, number-of-bytes}
 
 -- ---- the header
 module _ (order n b root : ℕ) where

@@ -1,5 +1,5 @@
 -- The numbers of the image's layout, each by its name. Assumes nothing.
-use Prim.Native.Nat.{ℕ, _+_, _*_}
+use Prim.Native.Nat.{ℕ, _+_, _*_, _<_}
 
 -- "Length is 15 + 14·b + 30·n": the bytes of a record.
 abbrev pub headerBytes : ℕ
@@ -47,3 +47,7 @@ countAt = 28
 -- "Length is 15 + 14·b + 30·n", for n keys in b blocks.
 abbrev pub imageBytes : ℕ → ℕ → ℕ
 imageBytes n b = headerBytes + blockBytes * b + nodeBytes * n
+
+-- The number is a byte.
+abbrev pub IsByte : ℕ → Type 0
+IsByte b = b < 256

@@ -18,9 +18,9 @@ use Rattle.treap.specs.Image.{orderBytes, countBytes, keyBytes, headerRecord, n
 use Rattle.structure.proofs.Blocks.{Holds, blocks-hold}
 use Rattle.table.specs.Layout.{mostSlots}
 use Rattle.table.specs.Contents.{Contents, Valid}
-use Rattle.image.specs.Layout.{headerBytes, blockBytes, nodeBytes, orderAt, sizeAt, blocksAt, rootAt, heldAt}
+use Rattle.image.specs.Layout.{headerBytes, blockBytes, nodeBytes, orderAt, sizeAt, blocksAt, rootAt, heldAt, IsByte}
 use Rattle.image.specs.Image.{imageOf, readImage, isImage, fieldAt}
-use Rattle.image.proofs.Bytes.{IsByte, field-before}
+use Rattle.image.proofs.Bytes.{field-before}
 use Rattle.image.proofs.Judging.{is-image-says}
 use Rattle.image.proofs.Records.{header-length, header-order, header-blocks, header-dropped, block-held, block-dropped}
 use Rattle.image.proofs.Lengths.{nodeOf-length, blockPart-length, order-within, image-longest}

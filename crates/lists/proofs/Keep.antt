@@ -155,6 +155,7 @@ all-at P [] i d h k = absurd (omega arith)
 all-at P (x ∷ xs) zero d h k = h .0
 all-at P (x ∷ xs) (suc i) d h k = all-at P xs i d (h .1) (omega arith)
 
-pub all-of-entries : {A : Type 0} (P : A → Type 0) (xs : List A) (d : A) → ((i : ℕ) → P (getD xs i d)) → All P xs
-all-of-entries P [] d h = tt
-all-of-entries P (x ∷ xs) d h = (h 0, all-of-entries P xs d (λ i. h (suc i)))
+-- what holds at each index holds of all elements
+pub all-of-indices : {A : Type 0} (P : A → Type 0) (xs : List A) (d : A) → ((i : ℕ) → i < length xs → P (getD xs i d)) → All P xs
+all-of-indices P [] d h = tt
+all-of-indices P (x ∷ xs) d h = (h 0 (omega arith), all-of-indices P xs d (λ i l. h (suc i) (omega arith)))

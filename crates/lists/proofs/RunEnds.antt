@@ -11,20 +11,16 @@ use lib.Seq.{slice, slice-cons, length-slice, drop-cons, getD-take, getD-drop}
 use borrow.Author.Tests.{ltb-true, ltb-false}
 use Rattle.lists.specs.Lists.{All, runs}
 use Rattle.lists.proofs.Tests.{by-test}
+use Rattle.lists.proofs.Keep.{all-of-indices}
 use Rattle.lists.proofs.Parts.{drop-slice}
 use Rattle.lists.proofs.Runs.{Alike, NotFirst, runs-next}
-
--- what holds at each index holds of all elements
-pub all-of-indices : (P : ℕ → Type 0) (xs : List ℕ) → ((i : ℕ) → i < length xs → P (getD xs i 0)) → All P xs
-all-of-indices P [] h = tt
-all-of-indices P (x ∷ xs) h = (h 0 (omega arith), all-of-indices P xs (λ i l. h (suc i) (omega arith)))
 
 pub slice-at : (low high i : ℕ) (xs : List ℕ) → low + i < high → getD (slice low high xs) i 0 ≡ getD xs (low + i) 0
 slice-at low high i xs l = getD-drop low (take high xs) i 0 ∙ getD-take high xs (low + i) 0 l
 
 pub all-slice-when : (P : ℕ → Type 0) (low high : ℕ) (xs : List ℕ) → high ≤ length xs → ((i : ℕ) → low ≤ i → i < high → P (getD xs i 0)) → All P (slice low high xs)
 all-slice-when P low high xs fits h =
-    all-of-indices P (slice low high xs)
+    all-of-indices P (slice low high xs) 0
     (λ i l.
     let inside : low + i < high = let size = length-slice low high xs fits in omega arith in
     subst P (sym (slice-at low high i xs inside)) (h (low + i) (omega arith) inside))

@@ -1,2 +1,3 @@
 -- Laws of preparing.
+pub mod Writable
 pub mod Preparing

@@ -20,9 +20,8 @@ use Rattle.treap.specs.Blocks.{Block, blocks}
 use Rattle.treap.specs.Image.{nodeRecord, nodeOf, blockPart, countBytes}
 use Rattle.table.specs.Layout.{mostSlots}
 use Rattle.table.specs.Contents.{Contents, Valid}
-use Rattle.image.specs.Layout.{headerBytes, blockBytes, nodeBytes, heldAt}
+use Rattle.image.specs.Layout.{headerBytes, blockBytes, nodeBytes, heldAt, IsByte}
 use Rattle.image.specs.Image.{imageOf, fieldAt, nodeKeys, blockKeys, readImage, isImage}
-use Rattle.image.proofs.Bytes.{IsByte}
 use Rattle.image.proofs.Judging.{is-image-says}
 use Rattle.image.proofs.Lengths.{nodeOf-length, blockPart-length, image-length}
 use Rattle.image.proofs.Reading.{Readable, part-held, part-nodes, part-dropped, blocks-readable, number-read, parts-read, keys-read, read-of-image}

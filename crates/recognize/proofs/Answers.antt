@@ -5,12 +5,11 @@ use mathlib.Core.Path.{_≡_, refl, sym, ap, _∙_, subst}
 use Prim.Native.Nat.{ℕ, _≤_}
 use native.Mathlib.Omega.{arith}
 use lib.ListN.{length}
-use Rattle.lists.proofs.Tests.{lies-says}
-use Rattle.lists.proofs.Keep.{all-map}
 use Rattle.treap.specs.Image.{orderBytes}
-use Rattle.table.specs.Layout.{mostSlots, leastOrder, greatestOrder}
-use Rattle.table.specs.Contents.{Contents, tableOrder, IsKey, Valid}
+use Rattle.table.specs.Layout.{mostSlots}
+use Rattle.table.specs.Contents.{Valid}
 use Rattle.prepare.specs.Prepared.{Keys}
+use Rattle.prepare.proofs.Writable.{valid-keys}
 use Rattle.image.specs.Layout.{headerBytes, orderAt}
 use Rattle.image.specs.Image.{fieldAt, readImage, isImage}
 use Rattle.image.proofs.Lengths.{image-length}
@@ -47,17 +46,9 @@ module _ (bytes : List ℕ) where
   -- the order and the keys of an image can be written
   pub image-keys : Valid mostSlots (readImage bytes) → (order : ℕ) → order ≡ fieldAt orderAt orderBytes bytes → (keys : List ℕ) → keys ≡ readImage bytes .keys
       → Keys order keys
-  unfolding tableOrder readImage
+  unfolding readImage
   image-keys valid order e keys f =
-      let within = lies-says leastOrder greatestOrder (fieldAt orderAt orderBytes bytes) (valid .order-right) in
-      subst (Keys order) (sym f)
-      (record {
-        wide = omega (arith, within .0);
-        narrow = omega (arith, within .1);
-        rising = valid .keys-rise;
-        some = all-map IsKey (λ k. 1 ≤ k) (λ k h. h .0) (readImage bytes .keys) (valid .keys-right);
-        few = valid .keys-fit;
-      })
+      subst (Keys order) (sym f) (subst (λ (α : ℕ). Keys α (readImage bytes .keys)) (sym e) (valid-keys mostSlots (readImage bytes) (omega arith) valid))
 
   pub image-header : Valid mostSlots (readImage bytes) → isImage bytes ≡ true → headerBytes ≤ length bytes
   image-header valid one = omega (arith, ap length (is-image-exactly bytes one), image-length (readImage bytes) valid)

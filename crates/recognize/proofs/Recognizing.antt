@@ -11,7 +11,7 @@ use lib.Seq.{drop-length}
 use mathlib.Core.List.{_++_, append-nil}
 use borrow.Author.Tests.{le-leb, leb-true}
 use Rattle.lists.specs.Lists.{All, same, risesB, every, nonzero, lies, sortBy, overwrite}
-use Rattle.lists.proofs.Tests.{by-test, true-or-false, and-left, and-right, and-both, lies-says}
+use Rattle.lists.proofs.Tests.{by-test, true-or-false, and-left, and-right, and-both}
 use Rattle.lists.proofs.Sorted.{sorted-length}
 use Rattle.lists.proofs.Start.{starts-with}
 use Rattle.lists.proofs.Overwrite.{overwrite-start}
@@ -21,10 +21,10 @@ use Rattle.table.specs.Layout.{mostSlots, leastOrder, greatestOrder}
 use Rattle.table.specs.Contents.{tableOrder, risingKeys}
 use Rattle.decode.proofs.RisingKeys.{rising-says}
 use Rattle.prepare.specs.Prepared.{Keys}
-use Rattle.image.specs.Layout.{headerBytes, orderAt}
+use Rattle.prepare.proofs.Writable.{writable}
+use Rattle.image.specs.Layout.{headerBytes, orderAt, IsByte}
 use Rattle.image.specs.Image.{imageOf, fieldAt, readImage, isImage}
 use Rattle.image.proofs.Judging.{is-image-says, is-image-exactly}
-use Rattle.image.proofs.Bytes.{IsByte}
 use Rattle.image.proofs.Lengths.{image-longest}
 use Rattle.parts.specs.Written.{writtenTo}
 use Rattle.reading.specs.Reading.{readable, intact, keysOf, blocksOf, collected}
@@ -106,9 +106,8 @@ module _ (bytes : List ℕ) where
   module _ (order : lies leastOrder greatestOrder orderShown ≡ true) (rise : risingKeys (readImage bytes .keys) ≡ true) (few : length (readImage bytes .keys) ≤ mostSlots) where
     pub can-be-written : Keys orderShown (readImage bytes .keys)
     can-be-written =
-        let within = lies-says leastOrder greatestOrder orderShown order in
         let keys = rising-says (readImage bytes .keys) rise in
-        record { wide = omega (arith, within .0); narrow = within .1; rising = keys .0; some = keys .1; few = few }
+        writable orderShown (readImage bytes .keys) order (keys .0) (keys .1) few
 
     pub is-one : same bytes (imageOf (readImage bytes)) ≡ true → isImage bytes ≡ true
     unfolding isImage tableOrder risingKeys

@@ -15,7 +15,8 @@ use Rattle.table.proofs.Soundness.{WordSized, sound-valid}
 use Rattle.examine.proofs.Verdicts.{told-false}
 use Rattle.edit.specs.Edit.{without}
 use Rattle.calls.proofs.Examined.{Examined, examined}
-use Rattle.changes.proofs.Sets.{without-valid, valid-keys}
+use Rattle.prepare.proofs.Writable.{valid-keys}
+use Rattle.changes.proofs.Sets.{without-valid}
 use Rattle.changes.proofs.Written.{ranked, written-with, writable-with}
 use Rattle.deletion.proofs.Deleting.{withoutKey, refused-table, refused-absent, accepted}
 use borrow.Author.Needs.{needs}

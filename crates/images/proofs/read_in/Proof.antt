@@ -6,12 +6,12 @@ use Prim.Native.Nat.{ℕ, _≤_}
 use native.Mathlib.Omega.{arith}
 use lib.ListN.{length, take}
 use lib.Seq.{length-take-le}
-use Rattle.lists.proofs.Keep.{all-of-entries}
+use Rattle.lists.proofs.Keep.{all-of-indices}
 use Rattle.lists.proofs.Start.{starts-with, as-long}
 use Rattle.table.specs.Contents.{Valid}
 use Rattle.table.specs.Layout.{mostSlots}
 use Rattle.image.specs.Image.{readImage, isImage}
-use Rattle.image.proofs.Bytes.{IsByte}
+use Rattle.image.specs.Layout.{IsByte}
 use Rattle.image.proofs.Judging.{is-image-valid, is-image-exactly}
 use Rattle.image.proofs.Lengths.{image-length}
 use Rattle.recognize.proofs.Answers.{told-image, told-other, told-number, image-keys, image-header}
@@ -50,7 +50,7 @@ number p = told-number (bytes (read-at p)) (size p) (sym (read-at p .recognize .
 valid : (p : tie.After-found) → Valid mostSlots (readImage (bytes (read-at p)))
 valid p =
     let b = bytes (read-at p) in
-    is-image-valid b (one p) (all-of-entries IsByte b 0 (λ i. omega (arith, read-at p .before .before .before .shared-slice-known .given i)))
+    is-image-valid b (one p) (all-of-indices IsByte b 0 (λ i l. omega (arith, read-at p .before .before .before .shared-slice-known .given i)))
 
 taken : (p : tie.After-found) → take (size p) (listed p) ≡ readImage (bytes (read-at p)) .keys
 taken p =

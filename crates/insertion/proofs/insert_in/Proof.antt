@@ -15,7 +15,8 @@ use Rattle.table.proofs.Soundness.{WordSized, sound-valid}
 use Rattle.examine.proofs.Verdicts.{told-false}
 use Rattle.edit.specs.Edit.{joined}
 use Rattle.calls.proofs.Examined.{Examined, examined}
-use Rattle.changes.proofs.Sets.{joined-length, joined-member, joined-valid, valid-keys}
+use Rattle.prepare.proofs.Writable.{valid-keys}
+use Rattle.changes.proofs.Sets.{joined-length, joined-member, joined-valid}
 use Rattle.changes.proofs.Written.{sound-again, shows, ranked, written-with, writable-with}
 use Rattle.insertion.proofs.Inserting.{withKey, put-taken, refused-table, refused-held, refused-full, accepted}
 use borrow.Author.Needs.{needs}

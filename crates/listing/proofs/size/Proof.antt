@@ -3,8 +3,8 @@ use mathlib.Core.Path.{ap, _∙_}
 use native.Mathlib.Omega.{arith}
 use lib.ListN.{length}
 use Rattle.lists.specs.Lists.{All}
-use Rattle.lists.proofs.RunEnds.{all-of-indices}
-use Rattle.image.proofs.Bytes.{IsByte}
+use Rattle.lists.proofs.Keep.{all-of-indices}
+use Rattle.image.specs.Layout.{IsByte}
 use Rattle.listing.proofs.Shows.{bytes-have-records, bytes-show, bytes-most}
 use Rattle.listing.proofs.size.Statement.{statement}
 use Rattle.listing.proofs.size.Tie as tie
@@ -14,7 +14,7 @@ use Rattle.listing.proofs.lengths.records.Reads as records-reads
 
 -- the lent elements are bytes
 lent : (c : tie.After-shared-slice-known) → All IsByte (c .before .args .image .now)
-lent c = all-of-indices IsByte (c .before .args .image .now) (λ i l. omega (arith, c .shared-slice-known .given i))
+lent c = all-of-indices IsByte (c .before .args .image .now) 0 (λ i l. omega (arith, c .shared-slice-known .given i))
 
 records-requires : tie.Need-records-requires
 records-requires c κs =

@@ -6,9 +6,9 @@ use native.Mathlib.Nat.{zero-add}
 use native.Mathlib.Omega.{arith}
 use lib.ListN.{length}
 use Rattle.lists.specs.Lists.{All, overwrite}
-use Rattle.lists.proofs.RunEnds.{all-of-indices}
+use Rattle.lists.proofs.Keep.{all-of-indices}
 use Rattle.image.specs.Image.{readImage}
-use Rattle.image.proofs.Bytes.{IsByte}
+use Rattle.image.specs.Layout.{IsByte}
 use Rattle.listing.specs.Listing.{listingOf}
 use Rattle.listing.specs.Shown.{shown}
 use Rattle.listing.proofs.Shows.{bytes-have-records, bytes-show}
@@ -21,7 +21,7 @@ use Rattle.listing.proofs.put_records.Reads as put-records-reads
 
 -- the lent elements are bytes
 lent : (c : tie.After-shared-slice-known) → All IsByte (c .before .args .image .now)
-lent c = all-of-indices IsByte (c .before .args .image .now) (λ i l. omega (arith, c .shared-slice-known .given i))
+lent c = all-of-indices IsByte (c .before .args .image .now) 0 (λ i l. omega (arith, c .shared-slice-known .given i))
 
 -- the records show the listing
 shows : (c : tie.After-shared-slice-known) → shown (c .before .args .image .now) ≡ listingOf (readImage (c .before .args .image .now))

@@ -10,11 +10,11 @@ use lib.Seq.{length-take-le}
 use borrow.Author.Tests.{not-true, not-false}
 use Rattle.lists.specs.Lists.{overwrite}
 use Rattle.lists.proofs.Tests.{true-or-false}
-use Rattle.lists.proofs.Keep.{all-of-entries}
+use Rattle.lists.proofs.Keep.{all-of-indices}
 use Rattle.treap.specs.Image.{countBytes}
-use Rattle.image.specs.Layout.{headerBytes, blockBytes, nodeBytes, heldAt}
+use Rattle.image.specs.Layout.{headerBytes, blockBytes, nodeBytes, heldAt, IsByte}
 use Rattle.image.specs.Image.{fieldAt, nodeKeys}
-use Rattle.image.proofs.Bytes.{IsByte, field-fits}
+use Rattle.image.proofs.Bytes.{field-fits}
 use Rattle.reading.specs.Reading.{marked, blocksOf, keysOf, readable, collected}
 use Rattle.reading.specs.declared.Collected.the-variants.{Broken}
 use Rattle.reading.proofs.Windows.{marked-part, nodeKeys-part}
@@ -66,7 +66,7 @@ held c = c .get2 .result
 few : (c : tie.After-get2 Inv-loop μ-loop) → held c < 65536
 few c =
     let p = turn c .before in
-    let byte-sized = all-of-entries IsByte (bytes p) 0 (λ i. omega (arith, p .before .before .before .before .shared-slice-known .given i)) in
+    let byte-sized = all-of-indices IsByte (bytes p) 0 (λ i l. omega (arith, p .before .before .before .before .shared-slice-known .given i)) in
     omega (arith, c .get2 .ensures, field-fits (p .loop .at + heldAt) countBytes (bytes p) byte-sized)
 
 -- the block's record lies within the bytes

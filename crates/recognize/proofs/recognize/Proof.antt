@@ -1,7 +1,7 @@
 -- `recognize::recognize` meets its contract. Assumes nothing.
 use native.Mathlib.Omega.{arith}
-use Rattle.lists.proofs.Keep.{all-of-entries}
-use Rattle.image.proofs.Bytes.{IsByte}
+use Rattle.lists.proofs.Keep.{all-of-indices}
+use Rattle.image.specs.Layout.{IsByte}
 use Rattle.recognize.proofs.Recognizing.{stop, too-long}
 use borrow.Author.Needs.{needs}
 use Rattle.recognize.proofs.recognize.Statement.{statement}
@@ -16,7 +16,7 @@ returns : tie.Need-returns
 returns c =
     let args = c .before .before .before .args in
     let bytes = args .image .now in
-    stop bytes (too-long bytes (all-of-entries IsByte bytes 0 (λ i. omega (arith, c .before .before .shared-slice-known .given i))) (c .if1 .taken)) (args .keys .now) (args .keys .now)
+    stop bytes (too-long bytes (all-of-indices IsByte bytes 0 (λ i l. omega (arith, c .before .before .shared-slice-known .given i))) (c .if1 .taken)) (args .keys .now) (args .keys .now)
 
 recognize-small-requires : tie.Need-recognize-small-requires
 recognize-small-requires c κs = search needs

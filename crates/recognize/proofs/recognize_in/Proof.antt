@@ -9,7 +9,7 @@ use lib.ListN.{length, take}
 use lib.Seq.{length-take-le}
 use borrow.Author.Tests.{not-true, not-false}
 use Rattle.lists.specs.Lists.{All, overwrite, sortBy, same, lies}
-use Rattle.lists.proofs.Keep.{all-of-entries}
+use Rattle.lists.proofs.Keep.{all-of-indices}
 use Rattle.lists.proofs.Start.{starts-with, as-long}
 use Rattle.priority.specs.Priority.{priorityOf}
 use Rattle.treap.specs.Image.{image}
@@ -17,9 +17,8 @@ use Rattle.table.specs.Layout.{mostSlots, leastOrder, greatestOrder}
 use Rattle.table.specs.Contents.{risingKeys}
 use Rattle.prepare.specs.Prepared.{Keys}
 use Rattle.parts.specs.Written.{writtenTo}
-use Rattle.image.specs.Layout.{headerBytes}
+use Rattle.image.specs.Layout.{headerBytes, IsByte}
 use Rattle.image.specs.Image.{imageOf, readImage, isImage}
-use Rattle.image.proofs.Bytes.{IsByte}
 use Rattle.reading.specs.Reading.{readable, keysOf, RoomFor}
 use Rattle.reading.proofs.Readable.{unreadable, readable-header, readable-few, readable-fits}
 use Rattle.recognize.proofs.Recognizing.{orderShown, shown-image, stop, wrong-order, not-rising, wrong-length, differs, can-be-written, is-one, accepted, told-readable, told-broken, told-number, sorted-shown, shown-size, written-over}
@@ -44,7 +43,7 @@ abbrev bytes : tie.After-collect → List ℕ
 bytes q = begun q .args .image .now
 
 byte-sized : (q : tie.After-collect) → All IsByte (bytes q)
-byte-sized q = all-of-entries IsByte (bytes q) 0 (λ i. omega (arith, q .before .before .before .before .before .before .before .before .shared-slice-known .given i))
+byte-sized q = all-of-indices IsByte (bytes q) 0 (λ i l. omega (arith, q .before .before .before .before .before .before .before .before .shared-slice-known .given i))
 
 -- ---- where the records can be read
 abbrev read-at : tie.After-found → tie.After-collect
