@@ -1,8 +1,8 @@
 //! The tables that are measured: how many slots, which keys, and some keys that
 //! are not held.
 
-use crate::random::Random;
 use reference::priority::priority;
+use reference::random::splitmix;
 use std::collections::BTreeSet;
 
 /// The order of every table.
@@ -35,8 +35,8 @@ pub fn all() -> Vec<Case> {
 
 /// Keys drawn at random.
 fn random(slots: usize, number: usize) -> Case {
-    let mut random = Random(number as u64);
-    let (keys, absent) = distinct(number, || random.next().max(1));
+    let mut state = number as u64;
+    let (keys, absent) = distinct(number, || splitmix(&mut state).max(1));
     let held = (0..TURNS).map(|turn| keys[turn * number / TURNS]).collect();
     let name = format!("M = {slots}, n = {number}");
     Case {
@@ -78,10 +78,10 @@ fn chain() -> Case {
 fn one_home() -> Case {
     const SLOTS: usize = 4096;
     const NUMBER: usize = 4000;
-    let mut random = Random(1);
+    let mut state = 1;
     let home = |key: u64| priority(key) / 65_536 % SLOTS as u64;
     let (keys, absent) = distinct(NUMBER, || loop {
-        let key = random.next();
+        let key = splitmix(&mut state);
         if key != 0 && home(key) == SLOTS as u64 / 2 {
             return key;
         }

@@ -1,9 +1,9 @@
 //! The stack that each call uses.
 
 use crate::case::ORDER;
-use crate::random::Random;
 use crate::stack::depth;
 use btreap::{Place, Refusal, LONGEST_IMAGE, MOST_SLOTS};
+use reference::random::splitmix;
 use std::collections::BTreeSet;
 use std::hint::black_box;
 
@@ -51,10 +51,10 @@ fn depths(slots: usize) -> Vec<(&'static str, usize)> {
 
 /// So many keys, rising.
 fn keys(number: usize) -> Vec<u64> {
-    let mut random = Random(number as u64);
+    let mut state = number as u64;
     let mut keys = BTreeSet::new();
     while keys.len() < number {
-        keys.insert(random.next().max(1));
+        keys.insert(splitmix(&mut state).max(1));
     }
     keys.into_iter().collect()
 }

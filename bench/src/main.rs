@@ -6,7 +6,6 @@ mod case;
 mod clock;
 mod depths;
 mod plain;
-mod random;
 mod report;
 mod rows;
 mod stack;

@@ -162,14 +162,14 @@ fn plain(refusal: u64) -> Reply {
     Reply { refusal, numbers }
 }
 
-fn ranked(reply: sys::Ranked) -> Reply {
+fn ranked(reply: sys::RankedReply) -> Reply {
     Reply {
         refusal: reply.refusal,
         numbers: vec![("rank", reply.rank)],
     }
 }
 
-fn found(reply: sys::Found) -> Reply {
+fn found(reply: sys::FoundReply) -> Reply {
     Reply {
         refusal: reply.refusal,
         numbers: vec![
@@ -182,14 +182,14 @@ fn found(reply: sys::Found) -> Reply {
     }
 }
 
-fn sized(reply: sys::Sized) -> Reply {
+fn sized(reply: sys::SizedReply) -> Reply {
     Reply {
         refusal: reply.refusal,
         numbers: vec![("size", reply.size)],
     }
 }
 
-fn stepped(reply: sys::Stepped) -> (Reply, Option<Place>) {
+fn stepped(reply: sys::SteppedReply) -> (Reply, Option<Place>) {
     let place = Place {
         next: reply.next,
         high: reply.high,

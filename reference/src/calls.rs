@@ -112,10 +112,10 @@ pub static REAL: Index<'static> = Index {
 };
 
 /// What a call answers inside: its result, or the refusal's number.
-type Outcome<T> = Result<T, u64>;
+pub(crate) type Outcome<T> = Result<T, u64>;
 
 /// Refuses with the number under the condition.
-fn refuse_if(condition: bool, refusal: u64) -> Outcome<()> {
+pub(crate) fn refuse_if(condition: bool, refusal: u64) -> Outcome<()> {
     if condition {
         Err(refusal)
     } else {
@@ -357,20 +357,20 @@ fn write_first<T: Copy>(output: &mut [T], result: &[T]) -> Outcome<usize> {
     Ok(result.len())
 }
 
-fn plain(outcome: Outcome<()>) -> PlainReply {
+pub(crate) fn plain(outcome: Outcome<()>) -> PlainReply {
     PlainReply {
         refusal: outcome.err().unwrap_or(0),
     }
 }
 
-fn ranked(outcome: Outcome<u64>) -> RankReply {
+pub(crate) fn ranked(outcome: Outcome<u64>) -> RankReply {
     match outcome {
         Ok(rank) => RankReply { refusal: 0, rank },
         Err(refusal) => RankReply { refusal, rank: 0 },
     }
 }
 
-fn length(outcome: Outcome<usize>) -> LengthReply {
+pub(crate) fn length(outcome: Outcome<usize>) -> LengthReply {
     match outcome {
         Ok(length) => LengthReply {
             refusal: 0,

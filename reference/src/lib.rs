@@ -10,6 +10,7 @@ pub mod fast;
 pub mod image;
 pub mod listing;
 pub mod priority;
+pub mod random;
 pub mod shape;
 pub mod table;
 pub mod treap;

@@ -143,7 +143,7 @@ pub fn delete(table: &mut [u64], key: u64) -> Result<u64, Refusal> {
 pub fn look_up(table: &[u64], key: u64) -> Result<Found, Refusal> {
     // SAFETY: as in `set_up`; the table is only read.
     let reply = unsafe { sys::btreap_lookup(table.as_ptr(), table.len(), key) };
-    let sys::Found { rank, count, leader, blocks, .. } = reply;
+    let sys::FoundReply { rank, count, leader, blocks, .. } = reply;
     let found = match reply.held {
         0 => Found::Absent { blocks },
         _ => Found::Held { rank, count, leader, blocks },

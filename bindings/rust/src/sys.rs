@@ -3,7 +3,7 @@
 /// The reply of an insert or a delete.
 #[repr(C)]
 #[derive(Clone, Copy, Debug, PartialEq, Eq)]
-pub struct Ranked {
+pub struct RankedReply {
     pub refusal: u64,
     pub rank: u64,
 }
@@ -11,7 +11,7 @@ pub struct Ranked {
 /// The reply of a lookup.
 #[repr(C)]
 #[derive(Clone, Copy, Debug, PartialEq, Eq)]
-pub struct Found {
+pub struct FoundReply {
     pub refusal: u64,
     pub held: u64,
     pub rank: u64,
@@ -23,7 +23,7 @@ pub struct Found {
 /// The reply of a range, a writing or a listing.
 #[repr(C)]
 #[derive(Clone, Copy, Debug, PartialEq, Eq)]
-pub struct Sized {
+pub struct SizedReply {
     pub refusal: u64,
     pub size: u64,
 }
@@ -31,7 +31,7 @@ pub struct Sized {
 /// The reply of a step and the place after it.
 #[repr(C)]
 #[derive(Clone, Copy, Debug, PartialEq, Eq)]
-pub struct Stepped {
+pub struct SteppedReply {
     pub refusal: u64,
     pub found: u64,
     pub key: u64,
@@ -43,12 +43,12 @@ pub struct Stepped {
 extern "C" {
     pub fn btreap_set_up(table: *mut u64, words: usize, order: u64) -> u64;
     pub fn btreap_build(table: *mut u64, words: usize, order: u64, keys: *const u64, n: usize) -> u64;
-    pub fn btreap_insert(table: *mut u64, words: usize, key: u64) -> Ranked;
-    pub fn btreap_delete(table: *mut u64, words: usize, key: u64) -> Ranked;
-    pub fn btreap_lookup(table: *const u64, words: usize, key: u64) -> Found;
-    pub fn btreap_range(table: *const u64, words: usize, low: u64, high: u64, out: *mut u64, out_words: usize) -> Sized;
-    pub fn btreap_step(table: *const u64, words: usize, next: u64, high: u64, done: u64) -> Stepped;
-    pub fn btreap_write(table: *const u64, words: usize, out: *mut u8, out_bytes: usize) -> Sized;
+    pub fn btreap_insert(table: *mut u64, words: usize, key: u64) -> RankedReply;
+    pub fn btreap_delete(table: *mut u64, words: usize, key: u64) -> RankedReply;
+    pub fn btreap_lookup(table: *const u64, words: usize, key: u64) -> FoundReply;
+    pub fn btreap_range(table: *const u64, words: usize, low: u64, high: u64, out: *mut u64, out_words: usize) -> SizedReply;
+    pub fn btreap_step(table: *const u64, words: usize, next: u64, high: u64, done: u64) -> SteppedReply;
+    pub fn btreap_write(table: *const u64, words: usize, out: *mut u8, out_bytes: usize) -> SizedReply;
     pub fn btreap_read(table: *mut u64, words: usize, image: *const u8, bytes: usize) -> u64;
-    pub fn btreap_list(image: *const u8, bytes: usize, out: *mut u8, out_bytes: usize) -> Sized;
+    pub fn btreap_list(image: *const u8, bytes: usize, out: *mut u8, out_bytes: usize) -> SizedReply;
 }

@@ -1,3 +1,3 @@
 -- Laws of the replies as structs.
-pub mod Refused
+pub mod Agreeing
 pub mod Marks

@@ -29,6 +29,7 @@ stepped r = record { refusal = r .refusal; numbers = r .found ∷ r .key ∷ [] 
 abbrev pub isSet : ℕ → Bool
 isSet done = not (eqb done 0)
 
+-- The place that the three numbers are.
 abbrev pub placeGiven : ℕ → ℕ → ℕ → Place
 placeGiven next high done = placeOf next high (isSet done)
 

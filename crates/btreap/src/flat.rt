@@ -1,7 +1,7 @@
 // The answers of the calls as the structs of `include/btreap.h`: the number of a refusal, zero where there is none, and the other
 // numbers, zero where there is one.
 ghost use mathlib.Core.Path.{_≡_};
-ghost use Rattle.replies.specs.Replies.{setUpOf, builtOf, insertedOf, deletedOf, lookedUpOf, rangedOf, steppedOf, writtenOf, readBackOf, listedOf};
+ghost use Rattle.replies.specs.Replies.{numberOf, setUpOf, builtOf, insertedOf, deletedOf, lookedUpOf, rangedOf, steppedOf, writtenOf, readBackOf, listedOf};
 ghost use Rattle.btreap.specs.Flat.{ranked, found, sized, stepped, markAfter};
 use replies::Built;
 use replies::Deleted;
@@ -10,6 +10,7 @@ use replies::Listed;
 use replies::LookedUp;
 use replies::Ranged;
 use replies::ReadBack;
+use replies::Refusal;
 use replies::SetUp;
 use replies::Stepped;
 use replies::Written;
@@ -50,6 +51,41 @@ pub struct SteppedReply {
     pub done: u64,
 }
 
+// The reply of a call that was accepted with a rank, and of one that was refused.
+fn rank_given(rank: u64) -> RankedReply
+    ensures { λ r. ⌜ (r .refusal ≡ 0) × (r .rank ≡ rank) ⌝ }
+{
+    RankedReply { refusal: 0, rank }
+}
+
+fn rank_refused(reason: Refusal) -> RankedReply
+    ensures { λ r. ⌜ (r .refusal ≡ numberOf reason) × (r .rank ≡ 0) ⌝ }
+{
+    RankedReply {
+        refusal: replies::number(reason),
+        rank: 0,
+    }
+}
+
+// The reply of a call that was accepted with a size, and of one that was refused.
+fn size_given(size: usize) -> SizedReply
+    ensures { λ r. ⌜ (r .refusal ≡ 0) × (r .size ≡ size) ⌝ }
+{
+    SizedReply {
+        refusal: 0,
+        size: size as u64,
+    }
+}
+
+fn size_refused(reason: Refusal) -> SizedReply
+    ensures { λ r. ⌜ (r .refusal ≡ numberOf reason) × (r .size ≡ 0) ⌝ }
+{
+    SizedReply {
+        refusal: replies::number(reason),
+        size: 0,
+    }
+}
+
 pub fn set_up(answer: SetUp) -> u64
     ensures { λ r. ⌜ r ≡ setUpOf answer .refusal ⌝ }
 {
@@ -72,11 +108,8 @@ pub fn inserted(answer: Inserted) -> RankedReply
     ensures { λ r. ⌜ ranked r ≡ insertedOf answer ⌝ }
 {
     match answer {
-        Inserted::Rank(rank) => RankedReply { refusal: 0, rank },
-        Inserted::Refused(reason) => RankedReply {
-            refusal: replies::number(reason),
-            rank: 0,
-        },
+        Inserted::Rank(rank) => rank_given(rank),
+        Inserted::Refused(reason) => rank_refused(reason),
     }
 }
 
@@ -84,11 +117,8 @@ pub fn deleted(answer: Deleted) -> RankedReply
     ensures { λ r. ⌜ ranked r ≡ deletedOf answer ⌝ }
 {
     match answer {
-        Deleted::Rank(rank) => RankedReply { refusal: 0, rank },
-        Deleted::Refused(reason) => RankedReply {
-            refusal: replies::number(reason),
-            rank: 0,
-        },
+        Deleted::Rank(rank) => rank_given(rank),
+        Deleted::Refused(reason) => rank_refused(reason),
     }
 }
 
@@ -127,14 +157,8 @@ pub fn ranged(answer: Ranged) -> SizedReply
     ensures { λ r. ⌜ sized r ≡ rangedOf answer ⌝ }
 {
     match answer {
-        Ranged::Wrote(size) => SizedReply {
-            refusal: 0,
-            size: size as u64,
-        },
-        Ranged::Refused(reason) => SizedReply {
-            refusal: replies::number(reason),
-            size: 0,
-        },
+        Ranged::Wrote(size) => size_given(size),
+        Ranged::Refused(reason) => size_refused(reason),
     }
 }
 
@@ -142,14 +166,8 @@ pub fn written(answer: Written) -> SizedReply
     ensures { λ r. ⌜ sized r ≡ writtenOf answer ⌝ }
 {
     match answer {
-        Written::Bytes(size) => SizedReply {
-            refusal: 0,
-            size: size as u64,
-        },
-        Written::Refused(reason) => SizedReply {
-            refusal: replies::number(reason),
-            size: 0,
-        },
+        Written::Bytes(size) => size_given(size),
+        Written::Refused(reason) => size_refused(reason),
     }
 }
 
@@ -166,14 +184,8 @@ pub fn listed(answer: Listed) -> SizedReply
     ensures { λ r. ⌜ sized r ≡ listedOf answer ⌝ }
 {
     match answer {
-        Listed::Bytes(size) => SizedReply {
-            refusal: 0,
-            size: size as u64,
-        },
-        Listed::Refused(reason) => SizedReply {
-            refusal: replies::number(reason),
-            size: 0,
-        },
+        Listed::Bytes(size) => size_given(size),
+        Listed::Refused(reason) => size_refused(reason),
     }
 }
 

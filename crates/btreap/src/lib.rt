@@ -12,7 +12,7 @@ use flat::SteppedReply;
 
 mod flat;
 
-// Refusals: 1, 2.
+// Make of any words of a right length the blank table of an order. Refusals: 1, 2.
 #[no_mangle]
 pub extern "C" fn btreap_set_up(table: &mut [u64], order: u64) -> u64
     ensures { λ r. ⌜ r ≡ setUpReply (now (table .entry)) order .refusal ⌝ }
@@ -22,7 +22,7 @@ pub extern "C" fn btreap_set_up(table: &mut [u64], order: u64) -> u64
     flat::set_up(answer)
 }
 
-// Refusals: 1, 2, 5, 10.
+// Make of any words of a right length the table of an order and a strictly rising list of keys. Refusals: 1, 2, 5, 10.
 #[no_mangle]
 pub extern "C" fn btreap_build(table: &mut [u64], order: u64, list: &[u64]) -> u64
     ensures { λ r. ⌜ r ≡ buildReply (now (table .entry)) order (now (list .entry)) .refusal ⌝ }
@@ -32,7 +32,7 @@ pub extern "C" fn btreap_build(table: &mut [u64], order: u64, list: &[u64]) -> u
     flat::built(answer)
 }
 
-// Refusals: 1, 3, 7, 8, 10.
+// Insert a key; the rank that it then has. Refusals: 1, 3, 7, 8, 10.
 #[no_mangle]
 pub extern "C" fn btreap_insert(table: &mut [u64], key: u64) -> RankedReply
     ensures { λ r. ⌜ ranked r ≡ insertReply (now (table .entry)) key ⌝ }
@@ -42,7 +42,7 @@ pub extern "C" fn btreap_insert(table: &mut [u64], key: u64) -> RankedReply
     flat::inserted(answer)
 }
 
-// Refusals: 1, 3, 7, 9.
+// Delete a key; the rank that it had. Refusals: 1, 3, 7, 9.
 #[no_mangle]
 pub extern "C" fn btreap_delete(table: &mut [u64], key: u64) -> RankedReply
     ensures { λ r. ⌜ ranked r ≡ deleteReply (now (table .entry)) key ⌝ }
@@ -52,7 +52,7 @@ pub extern "C" fn btreap_delete(table: &mut [u64], key: u64) -> RankedReply
     flat::deleted(answer)
 }
 
-// Refusals: 1, 3, 7.
+// Look a key up: whether it is held, where it stands, and how many blocks hold the keys compared. Refusals: 1, 3, 7.
 #[no_mangle]
 pub extern "C" fn btreap_lookup(table: &[u64], key: u64) -> FoundReply
     ensures { λ r. ⌜ found r ≡ lookupReply (now (table .entry)) key ⌝ }
@@ -61,7 +61,7 @@ pub extern "C" fn btreap_lookup(table: &[u64], key: u64) -> FoundReply
     flat::looked_up(answer)
 }
 
-// Refusals: 1, 4, 7, 11.
+// Write at the start of `output` the keys that the table holds from `low` to `high`, both included, rising. Refusals: 1, 4, 7, 11.
 #[no_mangle]
 pub extern "C" fn btreap_range(table: &[u64], low: u64, high: u64, output: &mut [u64]) -> SizedReply
     ensures { λ r. ⌜ sized r ≡ rangeReply (now (table .entry)) low high (now (output .entry)) ⌝ }
@@ -71,7 +71,8 @@ pub extern "C" fn btreap_range(table: &[u64], low: u64, high: u64, output: &mut 
     flat::ranged(answer)
 }
 
-// The place is done where `done` is not zero. Refusals: 1, 7.
+// The least key that the table holds from `next` to `high`, and the place after it; the place is done where `done` is not zero.
+// Refusals: 1, 7.
 #[no_mangle]
 pub extern "C" fn btreap_step(table: &[u64], next: u64, high: u64, done: u64) -> SteppedReply
     ensures { λ r. ⌜ stepped r ≡ stepReply (now (table .entry)) (placeGiven next high done) ⌝ }
@@ -86,7 +87,7 @@ pub extern "C" fn btreap_step(table: &[u64], next: u64, high: u64, done: u64) ->
     flat::stepped(answer, place.next, place.high, mark)
 }
 
-// Refusals: 1, 7, 11.
+// Write the table's image at the start of `output`; how many bytes it has. Refusals: 1, 7, 11.
 #[no_mangle]
 pub extern "C" fn btreap_write(table: &[u64], output: &mut [u8]) -> SizedReply
     ensures { λ r. ⌜ sized r ≡ writeReply (now (table .entry)) (now (output .entry)) ⌝ }
@@ -96,7 +97,7 @@ pub extern "C" fn btreap_write(table: &[u64], output: &mut [u8]) -> SizedReply
     flat::written(answer)
 }
 
-// Refusals: 1, 6, 10.
+// Make of any words of a right length the table whose image the bytes are. Refusals: 1, 6, 10.
 #[no_mangle]
 pub extern "C" fn btreap_read(table: &mut [u64], image: &[u8]) -> u64
     ensures { λ r. ⌜ r ≡ readReply (now (table .entry)) (now (image .entry)) .refusal ⌝ }
@@ -106,7 +107,7 @@ pub extern "C" fn btreap_read(table: &mut [u64], image: &[u8]) -> u64
     flat::read_back(answer)
 }
 
-// Refusals: 6, 11.
+// Write the text of an image at the start of `output`; how many bytes it has. Refusals: 6, 11.
 #[no_mangle]
 pub extern "C" fn btreap_list(image: &[u8], output: &mut [u8]) -> SizedReply
     ensures { λ r. ⌜ sized r ≡ listReply (now (image .entry)) (now (output .entry)) ⌝ }

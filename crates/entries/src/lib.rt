@@ -13,6 +13,7 @@ ghost use Rattle.table.specs.Sound.{soundWith};
 ghost use Rattle.find.specs.Find.{OnlyAt};
 ghost use Rattle.entries.specs.Steps.{nextKey, InSlot};
 use find::Found;
+use priority::CONSTANT_COUNT;
 use table::HEADER_WORDS;
 use table::KEY_FIELD;
 use table::LEFT_FIELD;
@@ -43,7 +44,7 @@ pub fn holds(table: &[u64], many: usize, key: u64) -> bool
 }
 
 // The slot of a key that the table holds; the constants of the priorities are lent. Internal to this library's crates.
-pub fn slot_of(table: &[u64], many: usize, key: u64, constants: &[u64; 2048]) -> usize
+pub fn slot_of(table: &[u64], many: usize, key: u64, constants: &[u64; CONSTANT_COUNT]) -> usize
     requires { ⌜ (0 < many) × (many ≤ mostSlots) × (length (now table) ≡ tableWords many) × (soundWith many (now table) ≡ true) × (member key (contentsOf many (now table) .keys) ≡ true) × HoldsConstants (now constants) ⌝ }
     ensures { λ r. ⌜ OnlyAt many (now (table .entry)) key r ⌝ }
 {
@@ -55,7 +56,7 @@ pub fn slot_of(table: &[u64], many: usize, key: u64, constants: &[u64; 2048]) ->
 }
 
 // The rank of a key that the table holds; the constants of the priorities are lent. Internal to this library's crates.
-pub fn rank_in(table: &[u64], many: usize, key: u64, constants: &[u64; 2048]) -> u64
+pub fn rank_in(table: &[u64], many: usize, key: u64, constants: &[u64; CONSTANT_COUNT]) -> u64
     requires { ⌜ (0 < many) × (many ≤ mostSlots) × (length (now table) ≡ tableWords many) × (soundWith many (now table) ≡ true) × (member key (contentsOf many (now table) .keys) ≡ true) × HoldsConstants (now constants) ⌝ }
     ensures { λ r. ⌜ r ≡ rank (contentsOf many (now (table .entry)) .order) priorityOf (contentsOf many (now (table .entry)) .keys) key ⌝ }
 {

@@ -1,13 +1,15 @@
 // Writing the image of a table, and making a table of an image. Each call takes any words and any bytes; what it refuses it leaves
 // as it was.
 ghost use mathlib.Core.Path.{_≡_};
-ghost use Prim.Native.Nat.{_<_, _≤_};
+ghost use Prim.Native.Nat.{_+_, _*_, _<_, _≤_};
 ghost use lib.ListN.{length};
 ghost use Rattle.table.specs.Layout.{mostSlots, tableWords};
+ghost use Rattle.image.specs.Layout.{headerBytes, nodeBytes};
 ghost use Rattle.reading.specs.Reading.{RoomFor};
 ghost use Rattle.replies.specs.Replies.{writtenOf, readBackOf};
 ghost use Rattle.calls.specs.Calls.{writeReply, writeOutput, readReply, readAfter};
 use examine::Verdict;
+use image::MEDIUM_BYTES;
 use image::ORDER_AT;
 use image::ORDER_BYTES;
 use recognize::Recognized;
@@ -89,7 +91,7 @@ fn read_in(table: &mut [u64], many: usize, image: &[u8], keys: &mut [u64]) -> Re
 
 // With room for the keys of an image of up to 15,375 bytes.
 fn read_few(table: &mut [u64], many: usize, image: &[u8]) -> ReadBack
-    requires { ⌜ (0 < many) × (many ≤ mostSlots) × (length (now table) ≡ tableWords many) × (length (now image) ≤ 15375) ⌝ }
+    requires { ⌜ (0 < many) × (many ≤ mostSlots) × (length (now table) ≡ tableWords many) × (length (now image) ≤ headerBytes + nodeBytes * 512) ⌝ }
     ensures { λ r. ⌜ readBackOf r ≡ readReply (now (table .entry)) (now (image .entry)) ⌝ }
     ensures { λ _. ⌜ now (table .exit) ≡ readAfter (now (table .entry)) (now (image .entry)) ⌝ }
 {
@@ -116,7 +118,7 @@ pub fn read(table: &mut [u64], image: &[u8]) -> ReadBack
     if many == 0 {
         return ReadBack::Refused(Refusal::WrongLength);
     }
-    if image.len() <= 15375 {
+    if image.len() <= MEDIUM_BYTES {
         return read_few(table, many, image);
     }
     read_many(table, many, image)

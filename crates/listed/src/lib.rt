@@ -1,12 +1,14 @@
 // The listing of an image: the call, and what the listing program prints.
 ghost use mathlib.Core.Path.{_≡_};
-ghost use Prim.Native.Nat.{_≤_};
+ghost use Prim.Native.Nat.{_+_, _*_, _≤_};
 ghost use lib.ListN.{length};
+ghost use Rattle.image.specs.Layout.{headerBytes, nodeBytes};
 ghost use Rattle.reading.specs.Reading.{RoomFor};
 ghost use Rattle.table.specs.Layout.{tableWords};
 ghost use Rattle.text.specs.Written.{Written};
 ghost use Rattle.replies.specs.Replies.{listedOf};
 ghost use Rattle.listed.specs.Listed.{listReply, listOutput, programSlots, programRefusal, refusedText, programText};
+use image::MEDIUM_BYTES;
 use recognize::Recognized;
 use replies::Listed;
 use replies::ReadBack;
@@ -35,7 +37,7 @@ fn list_in(image: &[u8], keys: &mut [u64], output: &mut [u8]) -> Listed
 
 // Write the listing of an image of up to 15,375 bytes.
 fn list_few(image: &[u8], output: &mut [u8]) -> Listed
-    requires { ⌜ length (now image) ≤ 15375 ⌝ }
+    requires { ⌜ length (now image) ≤ headerBytes + nodeBytes * 512 ⌝ }
     ensures { λ r. ⌜ listedOf r ≡ listReply (now (image .entry)) (now (output .entry)) ⌝ }
     ensures { λ _. ⌜ now (output .exit) ≡ listOutput (now (image .entry)) (now (output .entry)) ⌝ }
 {
@@ -57,7 +59,7 @@ pub fn list(image: &[u8], output: &mut [u8]) -> Listed
     ensures { λ r. ⌜ listedOf r ≡ listReply (now (image .entry)) (now (output .entry)) ⌝ }
     ensures { λ _. ⌜ now (output .exit) ≡ listOutput (now (image .entry)) (now (output .entry)) ⌝ }
 {
-    if image.len() <= 15375 {
+    if image.len() <= MEDIUM_BYTES {
         return list_few(image, output);
     }
     list_many(image, output)

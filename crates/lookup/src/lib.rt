@@ -9,6 +9,7 @@ ghost use Rattle.table.specs.Table.{contentsOf};
 ghost use Rattle.table.specs.Sound.{soundWith};
 ghost use Rattle.lookup.specs.Lookup.{standingOf, lookedUp};
 ghost use Rattle.entries.specs.Steps.{InSlot};
+use priority::CONSTANT_COUNT;
 use table::COUNT_FIELD;
 use table::LEADER_FIELD;
 use table::RANK_FIELD;
@@ -41,8 +42,8 @@ fn standing_of(table: &[u64], many: usize, slot: usize, key: u64) -> Standing
 
 // The way down the table's treap from its root to `key`, or to where `key` would hang. A new block is met whenever the
 // level changes; a table without keys has none. The constants of the priorities are lent.
-fn descend(table: &[u64], many: usize, key: u64, constants: &[u64; 2048]) -> Looked
-    requires { ⌜ (0 < many) × (many ≤ mostSlots) × (length (now table) ≡ tableWords many) × (soundWith many (now table) ≡ true) × (1 ≤ key) × HoldsConstants (now constants) ⌝ }
+fn descend(table: &[u64], many: usize, key: u64, constants: &[u64; CONSTANT_COUNT]) -> Looked
+    requires { ⌜ (0 < many) × (many ≤ mostSlots) × (length (now table) ≡ tableWords many) × (soundWith many (now table) ≡ true) × HoldsConstants (now constants) ⌝ }
     ensures { λ r. ⌜ r ≡ lookedUp (contentsOf many (now (table .entry))) key ⌝ }
 {
     let root = table[ROOT_WORD];
@@ -68,9 +69,9 @@ fn descend(table: &[u64], many: usize, key: u64, constants: &[u64; 2048]) -> Loo
 }
 
 // The way down the table's treap to `key`.
-// Internal to this library's crates: their tables are judged before, and their keys are not zero.
+// Internal to this library's crates: their tables are judged before.
 pub fn look_up(table: &[u64], many: usize, key: u64) -> Looked
-    requires { ⌜ (0 < many) × (many ≤ mostSlots) × (length (now table) ≡ tableWords many) × (soundWith many (now table) ≡ true) × (1 ≤ key) ⌝ }
+    requires { ⌜ (0 < many) × (many ≤ mostSlots) × (length (now table) ≡ tableWords many) × (soundWith many (now table) ≡ true) ⌝ }
     ensures { λ r. ⌜ r ≡ lookedUp (contentsOf many (now (table .entry))) key ⌝ }
 {
     let constants = priority::constant_table();

@@ -7,7 +7,7 @@ ghost use Rattle.priority.specs.Priority.{HoldsConstants, priorityOf, pr
 
 mod constants;
 
-use constants::CONSTANT_COUNT;
+pub use constants::CONSTANT_COUNT;
 use constants::CONSTANTS;
 
 const KEY_BYTES: u64 = 8;

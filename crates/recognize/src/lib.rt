@@ -1,16 +1,19 @@
 // Deciding whether bytes are an image: their keys are collected and sorted, and the image of what they show is compared with them.
 ghost use mathlib.Core.Bool.{true};
 ghost use mathlib.Core.Path.{_≡_};
-ghost use Prim.Native.Nat.{_≤_};
+ghost use Prim.Native.Nat.{_+_, _*_, _≤_};
 ghost use lib.ListN.{length};
 ghost use Rattle.lists.specs.Lists.{overwrite, same};
 ghost use Rattle.table.specs.Layout.{mostSlots};
+ghost use Rattle.image.specs.Layout.{headerBytes, nodeBytes};
 ghost use Rattle.image.specs.Image.{readImage, isImage};
 ghost use Rattle.reading.specs.Reading.{RoomFor};
 ghost use Rattle.recognize.specs.Recognize.{recognized};
+use image::MEDIUM_BYTES;
 use image::MOST_BYTES;
 use image::ORDER_AT;
 use image::ORDER_BYTES;
+use image::SMALL_BYTES;
 use reading::Collected;
 use table::GREATEST_ORDER;
 use table::LEAST_ORDER;
@@ -88,7 +91,7 @@ fn recognize_within(
 
 // An image of up to 1,935 bytes, which has at most 64 keys.
 fn recognize_small(image: &[u8], keys: &mut [u64]) -> Recognized
-    requires { ⌜ (length (now image) ≤ 1935) × RoomFor (length (now image)) (length (now keys)) ⌝ }
+    requires { ⌜ (length (now image) ≤ headerBytes + nodeBytes * 64) × RoomFor (length (now image)) (length (now keys)) ⌝ }
     ensures { λ r. ⌜ r ≡ recognized (now (image .entry)) ⌝ }
     ensures { λ _. ⌜ (isImage (now (image .entry)) ≡ true → now (keys .exit) ≡ overwrite (now (keys .entry)) 0 (readImage (now (image .entry)) .keys)) ⌝ }
 {
@@ -96,7 +99,7 @@ fn recognize_small(image: &[u8], keys: &mut [u64]) -> Recognized
     let mut weights = [0u64; 64];
     let mut ranking = [0u64; 64];
     let mut spare = [0u64; 64];
-    let mut copy = [0u8; 1935];
+    let mut copy = [0u8; SMALL_BYTES];
     recognize_within(
         image,
         &mut held,
@@ -110,7 +113,7 @@ fn recognize_small(image: &[u8], keys: &mut [u64]) -> Recognized
 
 // An image of up to 15,375 bytes, which has at most 512 keys.
 fn recognize_medium(image: &[u8], keys: &mut [u64]) -> Recognized
-    requires { ⌜ (length (now image) ≤ 15375) × RoomFor (length (now image)) (length (now keys)) ⌝ }
+    requires { ⌜ (length (now image) ≤ headerBytes + nodeBytes * 512) × RoomFor (length (now image)) (length (now keys)) ⌝ }
     ensures { λ r. ⌜ r ≡ recognized (now (image .entry)) ⌝ }
     ensures { λ _. ⌜ (isImage (now (image .entry)) ≡ true → now (keys .exit) ≡ overwrite (now (keys .entry)) 0 (readImage (now (image .entry)) .keys)) ⌝ }
 {
@@ -118,7 +121,7 @@ fn recognize_medium(image: &[u8], keys: &mut [u64]) -> Recognized
     let mut weights = [0u64; 512];
     let mut ranking = [0u64; 512];
     let mut spare = [0u64; 512];
-    let mut copy = [0u8; 15375];
+    let mut copy = [0u8; MEDIUM_BYTES];
     recognize_within(
         image,
         &mut held,
@@ -140,7 +143,7 @@ fn recognize_large(image: &[u8], keys: &mut [u64]) -> Recognized
     let mut weights = [0u64; 4096];
     let mut ranking = [0u64; 4096];
     let mut spare = [0u64; 4096];
-    let mut copy = [0u8; 180239];
+    let mut copy = [0u8; MOST_BYTES];
     recognize_within(
         image,
         &mut held,
@@ -163,10 +166,10 @@ pub fn recognize(image: &[u8], keys: &mut [u64]) -> Recognized
     if MOST_BYTES < image.len() {
         return Recognized::Other;
     }
-    if image.len() <= 1935 {
+    if image.len() <= SMALL_BYTES {
         return recognize_small(image, keys);
     }
-    if image.len() <= 15375 {
+    if image.len() <= MEDIUM_BYTES {
         return recognize_medium(image, keys);
     }
     recognize_large(image, keys)

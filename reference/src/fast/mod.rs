@@ -25,17 +25,6 @@ use judge::judge;
 use judged::Judged;
 use record::{level, slots_of_length, KEY, NONE, RANK};
 
-/// What a call answers inside: its result, or the refusal's number.
-type Outcome<T> = Result<T, u64>;
-
-fn refuse_if(condition: bool, refusal: u64) -> Outcome<()> {
-    if condition {
-        Err(refusal)
-    } else {
-        Ok(())
-    }
-}
-
 /// M, or refusal 1.
 fn length_of(table: &[u64]) -> Outcome<usize> {
     slots_of_length(table.len()).ok_or(TABLE_LENGTH)
@@ -44,28 +33,6 @@ fn length_of(table: &[u64]) -> Outcome<usize> {
 /// What is known of a sound table, or refusal 7.
 fn sound(table: &[u64]) -> Outcome<Judged> {
     judge(table).ok_or(UNSOUND)
-}
-
-fn plain(outcome: Outcome<()>) -> PlainReply {
-    let refusal = outcome.err().unwrap_or(0);
-    PlainReply { refusal }
-}
-
-fn ranked(outcome: Outcome<u64>) -> RankReply {
-    match outcome {
-        Ok(rank) => RankReply { refusal: 0, rank },
-        Err(refusal) => RankReply { refusal, rank: 0 },
-    }
-}
-
-fn sized(outcome: Outcome<usize>) -> LengthReply {
-    match outcome {
-        Ok(length) => LengthReply {
-            refusal: 0,
-            length: length as u64,
-        },
-        Err(refusal) => LengthReply { refusal, length: 0 },
-    }
 }
 
 /// "Set-up uses 1, 2"
@@ -161,7 +128,7 @@ fn try_look_up(table: &[u64], key: u64) -> Outcome<LookUpReply> {
 
 /// "range 1, 4, 7, 11"
 pub fn range(table: &[u64], low: u64, high: u64, output: &mut [u64]) -> LengthReply {
-    sized(try_range(table, low, high, output))
+    length(try_range(table, low, high, output))
 }
 
 fn try_range(table: &[u64], low: u64, high: u64, output: &mut [u64]) -> Outcome<usize> {
@@ -217,7 +184,7 @@ fn try_step(table: &[u64], place: Place) -> Outcome<(StepReply, Place)> {
 
 /// "writer 1, 7, 11"
 pub fn write_image(table: &[u64], output: &mut [u8]) -> LengthReply {
-    sized(try_write_image(table, output))
+    length(try_write_image(table, output))
 }
 
 fn try_write_image(table: &[u64], output: &mut [u8]) -> Outcome<usize> {
@@ -251,7 +218,7 @@ fn try_read_image(table: &mut [u64], bytes: &[u8]) -> Outcome<()> {
 
 /// Lists an image of up to 4,096 keys: 6, 11.
 pub fn list(bytes: &[u8], output: &mut [u8]) -> LengthReply {
-    sized(try_list(bytes, output))
+    length(try_list(bytes, output))
 }
 
 fn try_list(bytes: &[u8], output: &mut [u8]) -> Outcome<usize> {

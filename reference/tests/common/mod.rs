@@ -2,18 +2,15 @@
 #![allow(dead_code)]
 
 use reference::priority::TIES;
+use reference::random::splitmix;
 use std::collections::BTreeSet;
 
-/// Splitmix64.
+/// A state of the generator.
 pub struct Random(pub u64);
 
 impl Random {
     pub fn next(&mut self) -> u64 {
-        self.0 = self.0.wrapping_add(0x9E37_79B9_7F4A_7C15);
-        let mut z = self.0;
-        z = (z ^ (z >> 30)).wrapping_mul(0xBF58_476D_1CE4_E5B9);
-        z = (z ^ (z >> 27)).wrapping_mul(0x94D0_49BB_1331_11EB);
-        z ^ (z >> 31)
+        splitmix(&mut self.0)
     }
 
     pub fn below(&mut self, bound: u64) -> u64 {

@@ -69,7 +69,7 @@ rank-in-requires c κs =
     let pre = start .pre in
     let many = start .args .many in
     let words = start .args .table .now in
-    (pre .0, pre .1, pre .2, pre .3, root-held many (contentsOf many words) (valid known) _ (root-is many words (pre .3)) (c .if1 .left), pre .5)
+    (pre .0, pre .1, pre .2, pre .3, root-held many (contentsOf many words) (valid known) _ (root-is many words (pre .3)) (c .if1 .left), pre .4)
 
 loop-holds : tie.Need-loop-holds Inv-loop μ-loop
 loop-holds c =
@@ -82,7 +82,7 @@ loop-holds c =
 slot-of-requires : tie.Need-slot-of-requires Inv-loop μ-loop
 slot-of-requires c κs =
     let pre = c .before .before .before .before .before .before .pre in
-    (pre .0, pre .1, pre .2, pre .3, at-is-held c, pre .5)
+    (pre .0, pre .1, pre .2, pre .3, at-is-held c, pre .4)
 
 level-of-requires : tie.Need-level-of-requires Inv-loop μ-loop
 level-of-requires c κs = in-slot c

@@ -52,13 +52,11 @@ look-up-requires c κs =
     let p = c .before .before .before in
     let words = p .before .before .before .args .table .now in
     let here = p .before .slots-for .ensures in
-    let right = slots-for-some (length words) (λ e. p .if1 .left (here ∙ e)) in
-    let positive = c .before .before .if2 .left in (
+    let right = slots-for-some (length words) (λ e. p .if1 .left (here ∙ e)) in (
       omega (arith, here, right .some),
       omega (arith, here, right .within),
       omega (arith, here, right .long),
       sym (decided-with words (p .before .slots-for .result) (sym here) (p .if1 .left)) ∙ is-sound c,
-      omega arith,
     )
 
 enum-known-looked : tie.Need-enum-known-looked

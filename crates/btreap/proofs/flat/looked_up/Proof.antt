@@ -1,7 +1,7 @@
 -- `btreap::flat::looked_up` meets its contract. Assumes nothing.
 use mathlib.Core.Path.{sym, ap, _∙_}
 use Rattle.replies.specs.Replies.{lookedUpOf}
-use Rattle.btreap.proofs.Refused.{refused}
+use Rattle.btreap.proofs.Agreeing.{refused}
 use borrow.Author.Needs.{needs}
 use Rattle.btreap.proofs.flat.looked_up.Statement.{statement}
 use Rattle.btreap.proofs.flat.looked_up.Tie as tie

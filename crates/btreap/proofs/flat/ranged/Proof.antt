@@ -1,30 +1,32 @@
 -- `btreap::flat::ranged` meets its contract. Assumes nothing.
 use mathlib.Core.Path.{sym, ap, _∙_}
-use mathlib.Core.List.{[], _∷_}
-use Rattle.replies.specs.Replies.{rangedOf, Reply}
-use Rattle.btreap.proofs.Refused.{refused}
+use Rattle.replies.specs.Replies.{rangedOf}
+use Rattle.btreap.proofs.Agreeing.{replies}
 use borrow.Author.Needs.{needs}
 use Rattle.btreap.proofs.flat.ranged.Statement.{statement}
 use Rattle.btreap.proofs.flat.ranged.Tie as tie
 use Rattle.btreap.proofs.flat.ranged.Reads as reads
 use Rattle.btreap.proofs.flat.ranged.Lts as lts
-use Rattle.replies.proofs.number.Reads as number-reads
+use Rattle.btreap.proofs.flat.size_given.Reads as size-given-reads
+use Rattle.btreap.proofs.flat.size_refused.Reads as size-refused-reads
 
 enum-known-answer : tie.Need-enum-known-answer
 enum-known-answer c = search needs
 
+size-given-requires : tie.Need-size-given-requires
+size-given-requires c κs = search needs
+
+returns : tie.Need-returns
+returns c = replies (c .size-given .ensures .0) (c .size-given .ensures .1) ∙ ap rangedOf (sym (c .before .before .answer .given .1))
+
 enum-known-answer-2 : tie.Need-enum-known-answer-2
 enum-known-answer-2 c = search needs
 
-number-requires : tie.Need-number-requires
-number-requires c κs = search needs
-
-returns : tie.Need-returns
-returns c = ap rangedOf (sym (c .before .answer .given .1))
+size-refused-requires : tie.Need-size-refused-requires
+size-refused-requires c κs = search needs
 
 returns-2 : tie.Need-returns-2
-returns-2 c = refused (c .number .ensures) ∙ ap rangedOf (sym (c .before .before .answer2 .given .1))
+returns-2 c = replies (c .size-refused .ensures .0) (c .size-refused .ensures .1) ∙ ap rangedOf (sym (c .before .before .answer2 .given .1))
 
 pub ranged-spec : {M : Type 1} → statement M
-ranged-spec =
-    tie.close (tie.spec enum-known-answer enum-known-answer-2 number-requires returns returns-2)
+ranged-spec = tie.close (tie.spec enum-known-answer size-given-requires enum-known-answer-2 size-refused-requires returns returns-2)

@@ -1,7 +1,7 @@
 -- `btreap::flat::stepped` meets its contract. Assumes nothing.
 use mathlib.Core.Path.{refl, sym, ap, _∙_}
 use Rattle.replies.specs.Replies.{steppedOf}
-use Rattle.btreap.proofs.Refused.{refused}
+use Rattle.btreap.proofs.Agreeing.{refused}
 use borrow.Author.Needs.{needs}
 use Rattle.btreap.proofs.flat.stepped.Statement.{statement}
 use Rattle.btreap.proofs.flat.stepped.Tie as tie

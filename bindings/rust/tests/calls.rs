@@ -1,0 +1,89 @@
+//! The wrapper says of each call what the library replies.
+
+use btreap::{Found, Place, Refusal};
+
+const SLOTS: usize = 3;
+
+fn table_of(keys: &[u64]) -> Vec<u64> {
+    let mut table = vec![0; btreap::table_words(SLOTS)];
+    btreap::build(&mut table, 3, keys).unwrap();
+    table
+}
+
+fn unsound() -> Vec<u64> {
+    let mut table = table_of(&[5, 7]);
+    table[1] += 1;
+    table
+}
+
+#[test]
+fn each_refusal_has_its_number() {
+    let mut table = table_of(&[5, 7]);
+    let mut full = table_of(&[5, 7, 9]);
+    let refused = [
+        btreap::set_up(&mut table[1..], 3).unwrap_err(),
+        btreap::set_up(&mut table, 2).unwrap_err(),
+        btreap::insert(&mut table, 0).unwrap_err(),
+        btreap::range(&table, 2, 1, &mut []).unwrap_err(),
+        btreap::build(&mut table, 3, &[7, 5]).unwrap_err(),
+        btreap::read(&mut table, b"no image").unwrap_err(),
+        btreap::look_up(&unsound(), 5).unwrap_err(),
+        btreap::insert(&mut table, 5).unwrap_err(),
+        btreap::delete(&mut table, 6).unwrap_err(),
+        btreap::insert(&mut full, 6).unwrap_err(),
+        btreap::write(&table, &mut [0; 10]).unwrap_err(),
+    ];
+    let numbers: Vec<u64> = refused.iter().map(|refusal| refusal.number()).collect();
+    assert_eq!(numbers, (1..=11).collect::<Vec<u64>>());
+    assert_eq!(refused[4], Refusal::NotRising);
+    assert_eq!(refused[10].to_string(), "the output is too short");
+    assert_eq!(table, table_of(&[5, 7]));
+    assert_eq!(full, table_of(&[5, 7, 9]));
+}
+
+#[test]
+fn a_lookup_tells_held_from_absent() {
+    let table = table_of(&[5]);
+    assert_eq!(btreap::look_up(&table, 5), Ok(Found::Held { rank: 0, count: 1, leader: 0, blocks: 1 }));
+    assert_eq!(btreap::look_up(&table, 6), Ok(Found::Absent { blocks: 1 }));
+}
+
+#[test]
+fn a_range_is_at_the_start_of_the_output() {
+    let mut out = [99; 4];
+    assert_eq!(btreap::range(&table_of(&[5, 7, 9]), 6, 9, &mut out), Ok(2));
+    assert_eq!(out, [7, 9, 99, 99]);
+}
+
+#[test]
+fn steps_yield_the_range_and_then_end() {
+    let table = table_of(&[5, 7, u64::MAX]);
+    let mut place = Place::new(6, u64::MAX);
+    assert_eq!(btreap::step(&table, &mut place), Ok(Some(7)));
+    assert_eq!(place, Place::new(8, u64::MAX));
+    assert_eq!(btreap::step(&table, &mut place), Ok(Some(u64::MAX)));
+    assert_eq!(place, Place { next: 8, high: u64::MAX, done: true });
+    assert_eq!(btreap::step(&table, &mut place), Ok(None));
+}
+
+#[test]
+fn a_refused_step_leaves_its_place() {
+    for place in [Place::ALL, Place::SPENT, Place::new(3, 9)] {
+        let mut after = place;
+        assert_eq!(btreap::step(&unsound(), &mut after), Err(Refusal::NotSound));
+        assert_eq!(after, place);
+    }
+}
+
+#[test]
+fn an_image_comes_back() {
+    let table = table_of(&[5, 7]);
+    let mut image = vec![0; btreap::LONGEST_IMAGE];
+    let size = btreap::write(&table, &mut image).unwrap();
+    let mut other = vec![7; btreap::table_words(SLOTS)];
+    assert_eq!(btreap::read(&mut other, &image[..size]), Ok(()));
+    assert_eq!(other, table);
+    let mut text = vec![0; 10 * size];
+    let length = btreap::list(&image[..size], &mut text).unwrap();
+    assert!(text[..length].starts_with(b"order 3 keys 2 "));
+}
