@@ -2,7 +2,7 @@
 use mathlib.Core.Path.{_≡_, ap, ap₂}
 use mathlib.Core.List.{List, [], _∷_}
 use Prim.Native.Nat.{ℕ}
-use Rattle.replies.specs.Replies.{Reply}
+use Rattle.call_replies.specs.Replies.{Reply}
 
 -- A reply by its refusal and its other numbers.
 abbrev pub replyOf : List ℕ → ℕ → Reply

@@ -3,9 +3,9 @@ use mathlib.Core.Bool.{Bool, not, cond}
 use mathlib.Core.List.{[], _∷_}
 use Prim.Native.Nat.{ℕ}
 use lib.Dec.{eqb}
-use Rattle.replies.specs.Replies.{Reply}
-use Rattle.steps.specs.Steps.{placeOf}
-use Rattle.steps.specs.declared.Place.{Place}
+use Rattle.call_replies.specs.Replies.{Reply}
+use Rattle.call_step.specs.Steps.{placeOf}
+use Rattle.call_step.specs.declared.Place.{Place}
 use Rattle.btreap.specs.declared.flat.RankedReply.{RankedReply}
 use Rattle.btreap.specs.declared.flat.FoundReply.{FoundReply}
 use Rattle.btreap.specs.declared.flat.SizedReply.{SizedReply}

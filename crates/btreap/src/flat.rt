@@ -1,19 +1,19 @@
 // The answers of the calls as the structs of `include/btreap.h`: the number of a refusal, zero where there is none, and the other
 // numbers, zero where there is one.
 ghost use mathlib.Core.Path.{_≡_};
-ghost use Rattle.replies.specs.Replies.{numberOf, setUpOf, builtOf, insertedOf, deletedOf, lookedUpOf, rangedOf, steppedOf, writtenOf, readBackOf, listedOf};
+ghost use Rattle.call_replies.specs.Replies.{numberOf, setUpOf, builtOf, insertedOf, deletedOf, lookedUpOf, rangedOf, steppedOf, writtenOf, readBackOf, listedOf};
 ghost use Rattle.btreap.specs.Flat.{ranked, found, sized, stepped, markAfter};
-use replies::Built;
-use replies::Deleted;
-use replies::Inserted;
-use replies::Listed;
-use replies::LookedUp;
-use replies::Ranged;
-use replies::ReadBack;
-use replies::Refusal;
-use replies::SetUp;
-use replies::Stepped;
-use replies::Written;
+use call_replies::Built;
+use call_replies::Deleted;
+use call_replies::Inserted;
+use call_replies::Listed;
+use call_replies::LookedUp;
+use call_replies::Ranged;
+use call_replies::ReadBack;
+use call_replies::Refusal;
+use call_replies::SetUp;
+use call_replies::Stepped;
+use call_replies::Written;
 
 // `btreap_ranked`.
 #[repr(C)]
@@ -62,7 +62,7 @@ fn rank_refused(reason: Refusal) -> RankedReply
     ensures { λ r. ⌜ (r .refusal ≡ numberOf reason) × (r .rank ≡ 0) ⌝ }
 {
     RankedReply {
-        refusal: replies::number(reason),
+        refusal: call_replies::number(reason),
         rank: 0,
     }
 }
@@ -81,7 +81,7 @@ fn size_refused(reason: Refusal) -> SizedReply
     ensures { λ r. ⌜ (r .refusal ≡ numberOf reason) × (r .size ≡ 0) ⌝ }
 {
     SizedReply {
-        refusal: replies::number(reason),
+        refusal: call_replies::number(reason),
         size: 0,
     }
 }
@@ -91,7 +91,7 @@ pub fn set_up(answer: SetUp) -> u64
 {
     match answer {
         SetUp::Done => 0,
-        SetUp::Refused(reason) => replies::number(reason),
+        SetUp::Refused(reason) => call_replies::number(reason),
     }
 }
 
@@ -100,7 +100,7 @@ pub fn built(answer: Built) -> u64
 {
     match answer {
         Built::Done => 0,
-        Built::Refused(reason) => replies::number(reason),
+        Built::Refused(reason) => call_replies::number(reason),
     }
 }
 
@@ -143,7 +143,7 @@ pub fn looked_up(answer: LookedUp) -> FoundReply
             blocks: blocks as u64,
         },
         LookedUp::Refused(reason) => FoundReply {
-            refusal: replies::number(reason),
+            refusal: call_replies::number(reason),
             held: 0,
             rank: 0,
             count: 0,
@@ -176,7 +176,7 @@ pub fn read_back(answer: ReadBack) -> u64
 {
     match answer {
         ReadBack::Done => 0,
-        ReadBack::Refused(reason) => replies::number(reason),
+        ReadBack::Refused(reason) => call_replies::number(reason),
     }
 }
 
@@ -224,7 +224,7 @@ pub fn stepped(answer: Stepped, next: u64, high: u64, done: u64) -> SteppedReply
             done,
         },
         Stepped::Refused(reason) => SteppedReply {
-            refusal: replies::number(reason),
+            refusal: call_replies::number(reason),
             found: 0,
             key: 0,
             next,

@@ -1,9 +1,9 @@
 // The calls of the index as functions that a C or a Rust program links. Each takes any words, numbers and bytes, keeps no state, and
 // changes none of the lent memory where it refuses.
 ghost use mathlib.Core.Path.{_≡_};
-ghost use Rattle.steps.specs.Steps.{stepReply, stepPlace};
-ghost use Rattle.calls.specs.Calls.{setUpReply, setUpAfter, buildReply, buildAfter, insertReply, insertAfter, deleteReply, deleteAfter, lookupReply, rangeReply, rangeOutput, writeReply, writeOutput, readReply, readAfter};
-ghost use Rattle.listed.specs.Listed.{listReply, listOutput};
+ghost use Rattle.call_step.specs.Steps.{stepReply, stepPlace};
+ghost use Rattle.call_meaning.specs.Calls.{setUpReply, setUpAfter, buildReply, buildAfter, insertReply, insertAfter, deleteReply, deleteAfter, lookupReply, rangeReply, rangeOutput, writeReply, writeOutput, readReply, readAfter};
+ghost use Rattle.call_list.specs.Listed.{listReply, listOutput};
 ghost use Rattle.btreap.specs.Flat.{ranked, found, sized, stepped, placeGiven, markAfter};
 use flat::FoundReply;
 use flat::RankedReply;
@@ -80,7 +80,7 @@ pub extern "C" fn btreap_step(table: &[u64], next: u64, high: u64, done: u64) ->
     ensures { λ r. ⌜ r .high ≡ stepPlace (now (table .entry)) (placeGiven next high done) .high ⌝ }
     ensures { λ r. ⌜ r .done ≡ markAfter done (stepPlace (now (table .entry)) (placeGiven next high done) .done) ⌝ }
 {
-    let moved = steps::step_at(table, next, high, done != 0);
+    let moved = call_step::step_at(table, next, high, done != 0);
     let answer = moved.answer;
     let place = moved.place;
     let mark = flat::mark_after(done, place.done);
@@ -93,7 +93,7 @@ pub extern "C" fn btreap_write(table: &[u64], output: &mut [u8]) -> SizedReply
     ensures { λ r. ⌜ sized r ≡ writeReply (now (table .entry)) (now (output .entry)) ⌝ }
     ensures { λ _. ⌜ now (output .exit) ≡ writeOutput (now (table .entry)) (now (output .entry)) ⌝ }
 {
-    let answer = images::write(table, output);
+    let answer = call_image::write(table, output);
     flat::written(answer)
 }
 
@@ -103,7 +103,7 @@ pub extern "C" fn btreap_read(table: &mut [u64], image: &[u8]) -> u64
     ensures { λ r. ⌜ r ≡ readReply (now (table .entry)) (now (image .entry)) .refusal ⌝ }
     ensures { λ _. ⌜ now (table .exit) ≡ readAfter (now (table .entry)) (now (image .entry)) ⌝ }
 {
-    let answer = images::read(table, image);
+    let answer = call_image::read(table, image);
     flat::read_back(answer)
 }
 
@@ -113,6 +113,6 @@ pub extern "C" fn btreap_list(image: &[u8], output: &mut [u8]) -> SizedReply
     ensures { λ r. ⌜ sized r ≡ listReply (now (image .entry)) (now (output .entry)) ⌝ }
     ensures { λ _. ⌜ now (output .exit) ≡ listOutput (now (image .entry)) (now (output .entry)) ⌝ }
 {
-    let answer = listed::list(image, output);
+    let answer = call_list::list(image, output);
     flat::listed(answer)
 }

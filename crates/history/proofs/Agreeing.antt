@@ -14,8 +14,8 @@ use Rattle.table.specs.Layout.{mostSlots}
 use Rattle.table.specs.Contents.{Contents, Valid}
 use Rattle.image.specs.Image.{imageOf}
 use Rattle.image.proofs.Reading.{image-unique}
-use Rattle.calls.specs.Reasons.{outputTooShort, shown}
-use Rattle.calls.specs.Calls.{writeRefusal, writeReply, writeOutput}
+use Rattle.call_meaning.specs.Reasons.{outputTooShort, shown}
+use Rattle.call_meaning.specs.Calls.{writeRefusal, writeReply, writeOutput}
 use Rattle.history.specs.Call.{writing}
 use Rattle.history.specs.Book.{reasons, refusalBy}
 use Rattle.history.specs.Theorems.{Agree, AgreeAsLists, WritingAccepted, writtenImage, ImageWritten, ImagesAgree}

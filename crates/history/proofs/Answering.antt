@@ -6,11 +6,11 @@ use Prim.Native.Nat.{ℕ}
 use lib.Dec.{eqb}
 use Rattle.lists.proofs.Tests.{by-test}
 use Rattle.table.specs.Contents.{Contents}
-use Rattle.seek.specs.Seek.{leastWithin}
-use Rattle.replies.specs.Replies.{unlessRefused}
-use Rattle.calls.specs.Calls.{grown, setUpReply, buildReply, insertReply, deleteReply, lookupReply, rangeReply, rangeOutput, writeReply, writeOutput, readReply}
-use Rattle.steps.specs.Steps.{endReply, yielded, sought, stepReply, stepPlace}
-use Rattle.steps.specs.declared.Place.{Place}
+use Rattle.table_least.specs.Seek.{leastWithin}
+use Rattle.call_replies.specs.Replies.{unlessRefused}
+use Rattle.call_meaning.specs.Calls.{grown, setUpReply, buildReply, insertReply, deleteReply, lookupReply, rangeReply, rangeOutput, writeReply, writeOutput, readReply}
+use Rattle.call_step.specs.Steps.{endReply, yielded, sought, stepReply, stepPlace}
+use Rattle.call_step.specs.declared.Place.{Place}
 use Rattle.history.specs.Call.{Call, setUp, build, reading, insert, delete, lookup, range, writing, step, reply, output}
 use Rattle.history.specs.Book.{refusalBy, replyBy, outputBy, placeBy}
 use Rattle.history.specs.Theorems.{Answers}

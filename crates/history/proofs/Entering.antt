@@ -14,12 +14,12 @@ use Rattle.table.specs.Contents.{Contents, Valid, newOrder, risingKeys}
 use Rattle.table.specs.Table.{fresh}
 use Rattle.image.specs.Image.{isImage, readImage}
 use Rattle.image.proofs.Judging.{is-image-valid}
-use Rattle.edit.specs.Edit.{joined}
-use Rattle.replies.specs.Replies.{unlessRefused}
-use Rattle.calls.specs.Reasons.{wrongOrder, zeroKey, lowAboveHigh, notRising, notAnImage, outputTooShort}
-use Rattle.calls.specs.Calls.{rewritten, grown, shrunk, setUpAfter, buildAfter, readAfter, insertAfter, deleteAfter}
-use Rattle.changes.proofs.Sets.{joined-length, joined-valid, without-valid}
-use Rattle.decode.proofs.RisingKeys.{rising-says}
+use Rattle.call_sets.specs.Edit.{joined}
+use Rattle.call_replies.specs.Replies.{unlessRefused}
+use Rattle.call_meaning.specs.Reasons.{wrongOrder, zeroKey, lowAboveHigh, notRising, notAnImage, outputTooShort}
+use Rattle.call_meaning.specs.Calls.{rewritten, grown, shrunk, setUpAfter, buildAfter, readAfter, insertAfter, deleteAfter}
+use Rattle.call_changes.proofs.Sets.{joined-length, joined-valid, without-valid}
+use Rattle.table_decode.proofs.RisingKeys.{rising-says}
 use Rattle.history.specs.Call.{Call, setUp, build, reading, insert, delete, lookup, range, writing, step, Lent, run}
 use Rattle.history.specs.Book.{blank, listed, withKey, withoutKey, entered, reasons, refusalBy, note}
 use Rattle.history.proofs.Refusals.{none-applies, refused-through, either-way, both-same}

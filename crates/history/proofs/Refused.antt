@@ -3,9 +3,9 @@ use mathlib.Core.List.{List}
 use mathlib.Core.Path.{_≡_}
 use Prim.Native.Nat.{ℕ}
 use Rattle.table.specs.Contents.{Contents}
-use Rattle.calls.specs.Reasons.{wrongLength, notSound, keyHeld, keyAbsent, tooManyKeys}
-use Rattle.calls.specs.Calls.{grown, setUpRefusal, buildRefusal, insertRefusal, deleteRefusal, lookupRefusal, rangeRefusal, writeRefusal, readRefusal}
-use Rattle.steps.specs.Steps.{stepRefusal}
+use Rattle.call_meaning.specs.Reasons.{wrongLength, notSound, keyHeld, keyAbsent, tooManyKeys}
+use Rattle.call_meaning.specs.Calls.{grown, setUpRefusal, buildRefusal, insertRefusal, deleteRefusal, lookupRefusal, rangeRefusal, writeRefusal, readRefusal}
+use Rattle.call_step.specs.Steps.{stepRefusal}
 use Rattle.history.specs.Call.{setUp, build, reading, insert, delete, lookup, range, writing}
 use Rattle.history.specs.Book.{refusalBy}
 use Rattle.history.proofs.Shows.{Shows}

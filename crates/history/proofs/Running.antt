@@ -9,10 +9,10 @@ use Rattle.lists.specs.Lists.{All}
 use Rattle.table.specs.Layout.{mostSlots}
 use Rattle.table.specs.Contents.{Contents, Valid, newOrder}
 use Rattle.table.specs.Table.{fresh, Sound}
-use Rattle.replies.specs.Replies.{lowest}
-use Rattle.calls.specs.Reasons.{wrongLength, wrongOrder}
-use Rattle.calls.specs.Calls.{rewritten, setUpRefusal, setUpAfter}
-use Rattle.calls.proofs.Judged.{slots-here, right-length}
+use Rattle.call_replies.specs.Replies.{lowest}
+use Rattle.call_meaning.specs.Reasons.{wrongLength, wrongOrder}
+use Rattle.call_meaning.specs.Calls.{rewritten, setUpRefusal, setUpAfter}
+use Rattle.call_meaning.proofs.Judged.{slots-here, right-length}
 use Rattle.history.specs.Call.{Call, setUp, Lent, run, runs, History, callsOf}
 use Rattle.history.specs.Book.{blank, refusalBy, note, notes}
 use Rattle.history.specs.Theorems.{Table, TableFromBook, FirstAccepted, AnyStart, tableAfter, bookAfter}

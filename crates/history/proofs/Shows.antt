@@ -11,10 +11,10 @@ use Rattle.table.specs.Table.{fresh, Sound}
 use Rattle.table.proofs.Words.{fresh-length}
 use Rattle.table.proofs.Reading.{contents-of-fresh}
 use Rattle.table.proofs.Soundness.{fresh-passes}
-use Rattle.limits.specs.Lengths.{slotsFor}
-use Rattle.judge.specs.Judge.{isSound}
-use Rattle.calls.specs.Reasons.{shown}
-use Rattle.calls.proofs.Judged.{slots-here, right-length, judged, shown-is}
+use Rattle.table_limits.specs.Lengths.{slotsFor}
+use Rattle.table_judge.specs.Judge.{isSound}
+use Rattle.call_meaning.specs.Reasons.{shown}
+use Rattle.call_meaning.proofs.Judged.{slots-here, right-length, judged, shown-is}
 
 -- A sound table of `many` slots that holds this book.
 pub record Shows (many : ℕ) (words : List ℕ) (book : Contents) : Type 0 where

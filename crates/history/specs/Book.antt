@@ -10,14 +10,14 @@ use Rattle.priority.specs.Priority.{priorityOf}
 use Rattle.treap.specs.Blocks.{blocksMet}
 use Rattle.table.specs.Contents.{Contents}
 use Rattle.image.specs.Image.{imageOf, readImage}
-use Rattle.edit.specs.Edit.{joined, without}
-use Rattle.ranges.specs.Ranges.{within}
-use Rattle.seek.specs.Seek.{leastWithin}
-use Rattle.replies.specs.Replies.{Reply, Reason, lowest, unlessRefused}
-use Rattle.calls.specs.Reasons.{wrongOrder, zeroKey, lowAboveHigh, notRising, notAnImage, outputTooShort}
-use Rattle.calls.specs.Calls.{rankIn, standingIn}
-use Rattle.steps.specs.Steps.{endReply, yielded, moved}
-use Rattle.steps.specs.declared.Place.{Place}
+use Rattle.call_sets.specs.Edit.{joined, without}
+use Rattle.intervals.specs.Intervals.{within}
+use Rattle.table_least.specs.Seek.{leastWithin}
+use Rattle.call_replies.specs.Replies.{Reply, Reason, lowest, unlessRefused}
+use Rattle.call_meaning.specs.Reasons.{wrongOrder, zeroKey, lowAboveHigh, notRising, notAnImage, outputTooShort}
+use Rattle.call_meaning.specs.Calls.{rankIn, standingIn}
+use Rattle.call_step.specs.Steps.{endReply, yielded, moved}
+use Rattle.call_step.specs.declared.Place.{Place}
 use Rattle.history.specs.Call.{Call, setUp, build, reading, insert, delete, lookup, range, writing, step}
 
 -- ---- the entries

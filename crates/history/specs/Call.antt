@@ -6,10 +6,10 @@ use Prim.Native.Nat.{ℕ, _^_, _<_}
 use Rattle.lists.specs.Lists.{All}
 use Rattle.table.specs.Contents.{newOrder}
 use Rattle.image.specs.Layout.{IsByte}
-use Rattle.replies.specs.Replies.{Reply}
-use Rattle.calls.specs.Calls.{setUpAfter, setUpReply, buildAfter, buildReply, readAfter, readReply, insertAfter, insertReply, deleteAfter, deleteReply, lookupReply, rangeReply, rangeOutput, writeReply, writeOutput}
-use Rattle.steps.specs.Steps.{stepReply}
-use Rattle.steps.specs.declared.Place.{Place}
+use Rattle.call_replies.specs.Replies.{Reply}
+use Rattle.call_meaning.specs.Calls.{setUpAfter, setUpReply, buildAfter, buildReply, readAfter, readReply, insertAfter, insertReply, deleteAfter, deleteReply, lookupReply, rangeReply, rangeOutput, writeReply, writeOutput}
+use Rattle.call_step.specs.Steps.{stepReply}
+use Rattle.call_step.specs.declared.Place.{Place}
 
 -- "A history is a list of set-up, build, reading (of an image), insert, delete, lookup, range and writing (of one), refused calls
 -- included .. Each call brings its own inputs, whatever they hold, and its own output .. steps .. may come anywhere between".

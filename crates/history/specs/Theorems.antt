@@ -11,9 +11,9 @@ use Rattle.table.specs.Layout.{mostSlots, tableWords}
 use Rattle.table.specs.Contents.{Contents, Valid, newOrder}
 use Rattle.table.specs.Table.{fresh, Sound}
 use Rattle.image.specs.Image.{imageOf, readImage, isImage}
-use Rattle.calls.specs.Calls.{setUpRefusal, writeRefusal, writeReply, writeOutput}
-use Rattle.steps.specs.Steps.{stepPlace}
-use Rattle.steps.specs.declared.Place.{Place}
+use Rattle.call_meaning.specs.Calls.{setUpRefusal, writeRefusal, writeReply, writeOutput}
+use Rattle.call_step.specs.Steps.{stepPlace}
+use Rattle.call_step.specs.declared.Place.{Place}
 use Rattle.history.specs.Call.{Call, History, callsOf, runs, reply, output}
 use Rattle.image.specs.Layout.{IsByte}
 use Rattle.history.specs.Book.{withKey, withoutKey, notes, bookOf, replyBy, outputBy, placeBy}

@@ -8,7 +8,7 @@ use Rattle.priority.specs.Priority.{priorityOf}
 use Rattle.treap.specs.Treap.{top, leftLink, rightLink}
 use Rattle.treap.specs.Levels.{rank, count}
 use Rattle.treap.specs.Blocks.{Block, blocks}
-use Rattle.structure.proofs.Bounds.{rank-at-most, count-at-most, top-one, leftLink-one, rightLink-one, leaders-one, levels-at-most}
+use Rattle.treap_structure.proofs.Bounds.{rank-at-most, count-at-most, top-one, leftLink-one, rightLink-one, leaders-one, levels-at-most}
 use Rattle.table.specs.Layout.{mostSlots}
 use Rattle.table.specs.Contents.{Contents, IsKey, Valid}
 use Rattle.image.proofs.Lengths.{order-within, blocks-fit}

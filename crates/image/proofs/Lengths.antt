@@ -13,7 +13,7 @@ use Rattle.treap.specs.Treap.{top, leftLink, rightLink}
 use Rattle.treap.specs.Levels.{rank, count}
 use Rattle.treap.specs.Blocks.{Block, blocks}
 use Rattle.treap.specs.Image.{headerRecord, blockRecord, nodeOf, blockPart, image}
-use Rattle.structure.proofs.ImageOrder.{held-total, blocks-few}
+use Rattle.image.proofs.ImageOrder.{held-total, blocks-few}
 use Rattle.table.specs.Layout.{mostSlots, leastOrder, greatestOrder}
 use Rattle.table.specs.Contents.{Contents, Valid, tableOrder}
 use Rattle.image.specs.Layout.{blockBytes, nodeBytes, imageBytes, IsByte}

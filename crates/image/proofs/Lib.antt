@@ -1,4 +1,9 @@
 -- Laws of the image, one subject a file.
+pub mod Precedence
+pub mod ImageOrder
+pub mod BlockRuns
+pub mod Weights
+pub mod BlockTurns
 pub mod Bytes
 pub mod Records
 pub mod Lengths

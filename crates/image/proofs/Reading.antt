@@ -22,8 +22,8 @@ use Rattle.treap.specs.Treap.{top, leftLink, rightLink}
 use Rattle.treap.specs.Levels.{rank, count}
 use Rattle.treap.specs.Blocks.{Block, blocks}
 use Rattle.treap.specs.Image.{orderBytes, countBytes, keyBytes, blockRecord, nodeOf, blockPart, image}
-use Rattle.structure.proofs.Blocks.{Holds, blocks-hold}
-use Rattle.structure.proofs.ImageOrder.{before, image-order, held-total}
+use Rattle.treap_structure.proofs.Blocks.{Holds, blocks-hold}
+use Rattle.image.proofs.ImageOrder.{before, image-order, held-total}
 use Rattle.table.specs.Layout.{mostSlots}
 use Rattle.table.specs.Contents.{Contents, IsKey, Valid}
 use Rattle.image.specs.Layout.{headerBytes, blockBytes, nodeBytes, orderAt, blocksAt, heldAt, keyAt}

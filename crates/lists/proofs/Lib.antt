@@ -7,6 +7,7 @@ pub mod Rising
 pub mod Sorting
 pub mod Occurrences
 pub mod Sorted
+pub mod Renamed
 pub mod Replaced
 pub mod FlatMap
 pub mod UpFrom

@@ -1,16 +1,16 @@
 // Runs the calls on document 01's figures, and then through a session in which each call and each of their refusals is seen. A line is
 // the call, what it was given and, after the colon, its reply: the refusal's number, 0 for none, then the reply's numbers.
-use replies::Built;
-use replies::Deleted;
-use replies::Inserted;
-use replies::LookedUp;
-use replies::Ranged;
-use replies::ReadBack;
-use replies::Refusal;
-use replies::SetUp;
-use replies::Stepped;
-use replies::Written;
-use steps::Place;
+use call_replies::Built;
+use call_replies::Deleted;
+use call_replies::Inserted;
+use call_replies::LookedUp;
+use call_replies::Ranged;
+use call_replies::ReadBack;
+use call_replies::Refusal;
+use call_replies::SetUp;
+use call_replies::Stepped;
+use call_replies::Written;
+use call_step::Place;
 
 // The most words that a length is tried with.
 const MOST_WORDS: usize = 24585;
@@ -31,7 +31,7 @@ fn tell(number: u64) {
 }
 
 fn refused(reason: Refusal) {
-    tell(replies::number(reason));
+    tell(call_replies::number(reason));
 }
 
 fn set_up(table: &mut [u64], order: u64) {
@@ -136,7 +136,7 @@ fn range(table: &[u64], low: u64, high: u64) {
 
 fn write(table: &[u64], image: &mut [u8]) {
     say(b"write:");
-    let answer = images::write(table, image);
+    let answer = call_image::write(table, image);
     match answer {
         Written::Bytes(n) => {
             tell(0);
@@ -149,7 +149,7 @@ fn write(table: &[u64], image: &mut [u8]) {
 
 fn read_back(table: &mut [u64], image: &[u8]) {
     say(b"read:");
-    let answer = images::read(table, image);
+    let answer = call_image::read(table, image);
     match answer {
         ReadBack::Done => tell(0),
         ReadBack::Refused(reason) => refused(reason),
@@ -172,7 +172,7 @@ fn told(answer: Stepped) {
 // A step from a place; the place after it.
 fn step(table: &[u64], place: Place) -> Place {
     say(b"step:");
-    let moved = steps::step_at(table, place.next, place.high, place.done);
+    let moved = call_step::step_at(table, place.next, place.high, place.done);
     let answer = moved.answer;
     told(answer);
     moved.place

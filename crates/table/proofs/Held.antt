@@ -17,7 +17,7 @@ use Rattle.priority.specs.Priority.{priorityOf}
 use Rattle.priority.proofs.Bounds.{homeOf-below}
 use Rattle.treap.specs.Treap.{outranks}
 use Rattle.treap.specs.Slots.{firstEmpty, placeAll, slotsOf}
-use Rattle.slots.proofs.Placing.{empties, first-empty-is, empties-set, empties-replicate}
+use Rattle.table_slots.proofs.Placing.{empties, first-empty-is, empties-set, empties-replicate}
 use Rattle.table.specs.Table.{homeIn}
 
 -- The keys in the slots that are not empty.

@@ -13,7 +13,7 @@ use Rattle.lists.proofs.UpFrom.{mapped-upFrom-all}
 use Rattle.priority.specs.Priority.{priorityOf}
 use Rattle.treap.specs.Treap.{top, outranks}
 use Rattle.treap.specs.Slots.{slotsOf}
-use Rattle.slots.proofs.Placing.{placeAll-length}
+use Rattle.table_slots.proofs.Placing.{placeAll-length}
 use Rattle.table.specs.Layout.{slotWords, orderWord, sizeWord, rootWord, keyField, tableWords, slotStart, keyIn, slotKeys}
 use Rattle.table.specs.Contents.{Contents}
 use Rattle.table.specs.Table.{homeIn, header, slotOf, fresh}

@@ -6,7 +6,7 @@ use Rattle.btreap.proofs.btreap_list.Tie as tie
 use Rattle.btreap.proofs.btreap_list.Reads as reads
 use Rattle.btreap.proofs.btreap_list.Lts as lts
 use Rattle.btreap.proofs.flat.listed.Reads as listed-reads
-use Rattle.listed.proofs.list.Reads as list-reads
+use Rattle.call_list.proofs.list.Reads as list-reads
 
 list-requires : tie.Need-list-requires
 list-requires c κs = search needs

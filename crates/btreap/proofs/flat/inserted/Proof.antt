@@ -1,6 +1,6 @@
 -- `btreap::flat::inserted` meets its contract. Assumes nothing.
 use mathlib.Core.Path.{sym, ap, _∙_}
-use Rattle.replies.specs.Replies.{insertedOf}
+use Rattle.call_replies.specs.Replies.{insertedOf}
 use Rattle.btreap.proofs.Agreeing.{replies}
 use borrow.Author.Needs.{needs}
 use Rattle.btreap.proofs.flat.inserted.Statement.{statement}

@@ -1,6 +1,6 @@
 -- `btreap::flat::listed` meets its contract. Assumes nothing.
 use mathlib.Core.Path.{sym, ap, _∙_}
-use Rattle.replies.specs.Replies.{listedOf}
+use Rattle.call_replies.specs.Replies.{listedOf}
 use Rattle.btreap.proofs.Agreeing.{replies}
 use borrow.Author.Needs.{needs}
 use Rattle.btreap.proofs.flat.listed.Statement.{statement}

@@ -1,13 +1,13 @@
 -- `btreap::flat::looked_up` meets its contract. Assumes nothing.
 use mathlib.Core.Path.{sym, ap, _∙_}
-use Rattle.replies.specs.Replies.{lookedUpOf}
+use Rattle.call_replies.specs.Replies.{lookedUpOf}
 use Rattle.btreap.proofs.Agreeing.{refused}
 use borrow.Author.Needs.{needs}
 use Rattle.btreap.proofs.flat.looked_up.Statement.{statement}
 use Rattle.btreap.proofs.flat.looked_up.Tie as tie
 use Rattle.btreap.proofs.flat.looked_up.Reads as reads
 use Rattle.btreap.proofs.flat.looked_up.Lts as lts
-use Rattle.replies.proofs.number.Reads as number-reads
+use Rattle.call_replies.proofs.number.Reads as number-reads
 
 enum-known-answer : tie.Need-enum-known-answer
 enum-known-answer c = search needs

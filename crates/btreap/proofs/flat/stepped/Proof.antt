@@ -1,13 +1,13 @@
 -- `btreap::flat::stepped` meets its contract. Assumes nothing.
 use mathlib.Core.Path.{refl, sym, ap, _∙_}
-use Rattle.replies.specs.Replies.{steppedOf}
+use Rattle.call_replies.specs.Replies.{steppedOf}
 use Rattle.btreap.proofs.Agreeing.{refused}
 use borrow.Author.Needs.{needs}
 use Rattle.btreap.proofs.flat.stepped.Statement.{statement}
 use Rattle.btreap.proofs.flat.stepped.Tie as tie
 use Rattle.btreap.proofs.flat.stepped.Reads as reads
 use Rattle.btreap.proofs.flat.stepped.Lts as lts
-use Rattle.replies.proofs.number.Reads as number-reads
+use Rattle.call_replies.proofs.number.Reads as number-reads
 
 enum-known-answer : tie.Need-enum-known-answer
 enum-known-answer c = search needs

@@ -1,6 +1,6 @@
 -- `btreap::flat::written` meets its contract. Assumes nothing.
 use mathlib.Core.Path.{sym, ap, _∙_}
-use Rattle.replies.specs.Replies.{writtenOf}
+use Rattle.call_replies.specs.Replies.{writtenOf}
 use Rattle.btreap.proofs.Agreeing.{replies}
 use borrow.Author.Needs.{needs}
 use Rattle.btreap.proofs.flat.written.Statement.{statement}

@@ -1,0 +1,78 @@
+-- `call_build::set_up` meets its contract. Assumes nothing.
+use mathlib.Core.Bool.{true}
+use mathlib.Core.Logic.{_≢_}
+use mathlib.Core.Path.{_≡_, sym, ap, _∙_}
+use native.Mathlib.Omega.{arith}
+use lib.ListN.{length, length-replicate}
+use borrow.Author.Tests.{not-true, not-false}
+use Rattle.table.specs.Contents.{newOrder}
+use Rattle.table_limits.specs.Lengths.{slotsFor}
+use Rattle.table_limits.proofs.Lengths.{SlotsOf, slots-for-some}
+use Rattle.call_build.proofs.SettingUp.{refused-length, refused-order, accepted}
+use borrow.Author.Needs.{needs}
+use Rattle.call_build.proofs.set_up.Statement.{statement}
+use Rattle.call_build.proofs.set_up.Tie as tie
+use Rattle.call_build.proofs.set_up.Reads as reads
+use Rattle.call_build.proofs.set_up.Lts as lts
+use Rattle.table_limits.proofs.is_new_order.Reads as is-new-order-reads
+use Rattle.table_limits.proofs.slots_for.Reads as slots-for-reads
+use Rattle.table_slots.proofs.clear.Reads as clear-reads
+
+-- past the first test the words have a right length, past the second the order is right
+right-length : (p : tie.Else1) → slotsFor (length (p .before .before .before .args .table .now)) ≢ 0
+right-length p e = p .if1 .left (p .before .slots-for .ensures ∙ e)
+
+right-order : (p : tie.Else2) → newOrder (p .before .before .before .before .before .args .order) ≡ true
+right-order p = sym (p .before .is-new-order .ensures) ∙ not-false (p .before .is-new-order .result) (p .if2 .left)
+
+slots-for-requires : tie.Need-slots-for-requires
+slots-for-requires c κs = search needs
+
+returns : tie.Need-returns
+returns c =
+    let start = c .before .before .before in
+    refused-length (start .args .table .now) (start .args .order) (sym (c .before .slots-for .ensures) ∙ c .if1 .taken)
+
+is-new-order-requires : tie.Need-is-new-order-requires
+is-new-order-requires c κs = search needs
+
+returns-2 : tie.Need-returns-2
+returns-2 c =
+    let start = c .before .before .before .before .before in
+    refused-order (start .args .table .now) (start .args .order) (right-length (c .before .before))
+    (sym (c .before .is-new-order .ensures) ∙ not-true (c .before .is-new-order .result) (c .if2 .taken))
+
+clear-requires : tie.Need-clear-requires
+clear-requires c κs = search needs
+
+slice-write-table : tie.Need-slice-write-table
+slice-write-table c =
+    let words = c .before .before .before .before .before .before .before .before .before .args .table .now in
+    let right = slots-for-some (length words) (right-length (c .before .before .before .before .before .before)) in
+    let long : length (c .before .before .clear .last .0) ≡ length words =
+    ap length (c .before .before .clear .ensures) ∙ length-replicate (length words) 0
+    in
+    omega (arith, right .some, right .long)
+
+same-length : tie.Need-same-length
+same-length c = search needs
+
+returns-3 : tie.Need-returns-3
+returns-3 c =
+    let start = c .before .before .before .before .before .before .before .before .before in
+    let p = c .before .before .before .before in
+    accepted (start .args .table .now) (start .args .order) (right-length (p .before .before)) (right-order p)
+    (c .before .before .clear .last .0) (c .before .before .clear .ensures)
+
+pub set-up-spec : {M : Type 1} → statement M
+set-up-spec =
+    tie.close
+    (tie.spec
+    slots-for-requires
+    returns
+    is-new-order-requires
+    returns-2
+    clear-requires
+    slice-write-table
+    same-length
+    returns-3)

@@ -1,0 +1,48 @@
+// Making a table of any words: the blank one of an order, or that of an order and a list of keys.
+ghost use mathlib.Core.Path.{_≡_};
+ghost use Prim.Native.Nat.{_<_};
+ghost use lib.ListN.{length};
+ghost use Rattle.call_replies.specs.Replies.{setUpOf, builtOf};
+ghost use Rattle.call_meaning.specs.Calls.{setUpReply, setUpAfter, buildReply, buildAfter};
+use call_replies::Built;
+use call_replies::Refusal;
+use call_replies::SetUp;
+use table::ORDER_WORD;
+
+// Make of any words of a right length the blank table of an order. Refusals: 1, 2.
+pub fn set_up(table: &mut [u64], order: u64) -> SetUp
+    ensures { λ r. ⌜ setUpOf r ≡ setUpReply (now (table .entry)) order ⌝ }
+    ensures { λ _. ⌜ now (table .exit) ≡ setUpAfter (now (table .entry)) order ⌝ }
+{
+    if table_limits::slots_for(table.len()) == 0 {
+        return SetUp::Refused(Refusal::WrongLength);
+    }
+    if !table_limits::is_new_order(order) {
+        return SetUp::Refused(Refusal::WrongOrder);
+    }
+    table_slots::clear(table);
+    table[ORDER_WORD] = order;
+    SetUp::Done
+}
+
+// Make of any words of a right length the table of an order and a strictly rising list of keys. Refusals: 1, 2, 5, 10.
+pub fn build(table: &mut [u64], order: u64, list: &[u64]) -> Built
+    ensures { λ r. ⌜ builtOf r ≡ buildReply (now (table .entry)) order (now (list .entry)) ⌝ }
+    ensures { λ _. ⌜ now (table .exit) ≡ buildAfter (now (table .entry)) order (now (list .entry)) ⌝ }
+{
+    let many = table_limits::slots_for(table.len());
+    if many == 0 {
+        return Built::Refused(Refusal::WrongLength);
+    }
+    if !table_limits::is_new_order(order) {
+        return Built::Refused(Refusal::WrongOrder);
+    }
+    if !table_decode::is_rising(list) {
+        return Built::Refused(Refusal::NotRising);
+    }
+    if many < list.len() {
+        return Built::Refused(Refusal::TooManyKeys);
+    }
+    table_write::write(order, list, many, table);
+    Built::Done
+}

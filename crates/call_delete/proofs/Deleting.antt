@@ -1,0 +1,76 @@
+-- What the tests of a delete say of its reply and of the table after it. Assumes nothing.
+use mathlib.Core.Bool.{true, false}
+use mathlib.Core.List.{List, [], _∷_}
+use mathlib.Core.Logic.{_≢_}
+use mathlib.Core.Path.{_≡_, ap, _∙_}
+use Prim.Native.Nat.{ℕ, _<_, _≤_}
+use native.Mathlib.Omega.{arith}
+use lib.Dec.{eqb}
+use lib.ListN.{length}
+use borrow.Author.Tests.{eq-eqb, ne-eqb}
+use Rattle.lists.specs.Lists.{member}
+use Rattle.table.specs.Contents.{Contents}
+use Rattle.table.specs.Layout.{mostSlots, tableWords}
+use Rattle.table.specs.Table.{fresh, contentsOf}
+use Rattle.table.specs.Sound.{soundWith}
+use Rattle.table_limits.specs.Lengths.{slotsFor}
+use Rattle.call_sets.specs.Edit.{without}
+use Rattle.call_replies.specs.Replies.{deletedOf}
+use Rattle.call_replies.specs.declared.Refusal.the-variants.{WrongLength, ZeroKey, NotSound, KeyAbsent}
+use Rattle.call_replies.specs.declared.Deleted.{Deleted}
+use Rattle.call_replies.specs.declared.Deleted.the-variants.{Rank, Refused}
+use Rattle.call_meaning.specs.Reasons.{wrongLength, zeroKey, notSound, keyAbsent, shown}
+use Rattle.call_meaning.specs.Calls.{rankIn, rewritten, shrunk, deleteRefusal, deleteReply, deleteAfter}
+use Rattle.call_meaning.proofs.Judged.{slots-here, right-length, judged, shown-is, member-shown}
+
+-- What a table of so many slots shows, with a key less.
+abbrev pub withoutKey : ℕ → List ℕ → ℕ → Contents
+withoutKey many words key = record { order = contentsOf many words .order; keys = without key (contentsOf many words .keys) }
+
+module _ (words : List ℕ) (key : ℕ) where
+  -- What a delete that answers so and leaves these words meets.
+  abbrev Meets : Deleted → List ℕ → Type 0
+  Meets answer after = (deletedOf answer ≡ deleteReply words key) × (after ≡ deleteAfter words key)
+
+  pub refused-length : slotsFor (length words) ≡ 0 → Meets (Refused WrongLength) words
+  unfolding deleteReply deleteAfter deleteRefusal wrongLength
+  refused-length e = (rw e, rw e)
+
+  pub refused-zero : slotsFor (length words) ≢ 0 → key ≡ 0 → Meets (Refused ZeroKey) words
+  unfolding deleteReply deleteAfter deleteRefusal wrongLength zeroKey
+  refused-zero d e =
+      let right = ne-eqb (slotsFor (length words)) 0 d in
+      let zero-key = eq-eqb key 0 e in
+      (rw (right, zero-key), rw (right, zero-key))
+
+  module _ (many : ℕ) (some : 0 < many) (most : many ≤ mostSlots) (long : length words ≡ tableWords many) (positive : 1 ≤ key) where
+    slots-right : eqb (slotsFor (length words)) 0 ≡ false
+    slots-right = right-length words many some most long
+
+    not-zero : eqb key 0 ≡ false
+    not-zero = ne-eqb key 0 (λ e. omega arith)
+
+    pub refused-table : soundWith many words ≡ false → Meets (Refused NotSound) words
+    unfolding deleteReply deleteAfter deleteRefusal wrongLength zeroKey notSound
+    refused-table e =
+        let unsound = judged words many some most long false e in
+        (rw (slots-right, not-zero, unsound), rw (slots-right, not-zero, unsound))
+
+    module _ (sound : soundWith many words ≡ true) where
+      pub refused-absent : member key (contentsOf many words .keys) ≡ false → Meets (Refused KeyAbsent) words
+      unfolding deleteReply deleteAfter deleteRefusal wrongLength zeroKey notSound keyAbsent
+      refused-absent e =
+          let is-sound = judged words many some most long true sound in
+          let absent = member-shown words many some most long key false e in
+          (rw (slots-right, not-zero, is-sound, absent), rw (slots-right, not-zero, is-sound, absent))
+
+      pub accepted : member key (contentsOf many words .keys) ≡ true → (n : ℕ) → n ≡ rankIn (contentsOf many words) key
+          → (after : List ℕ) → after ≡ fresh many (withoutKey many words key) → Meets (Rank n) after
+      unfolding deleteReply deleteAfter deleteRefusal wrongLength zeroKey notSound keyAbsent rewritten shrunk
+      accepted held n e after q =
+          let is-sound = judged words many some most long true sound in
+          let present = member-shown words many some most long key true held in
+          let shown-here = shown-is words many some most long in (
+            rw (slots-right, not-zero, is-sound, present, shown-here, e),
+            rw (slots-right, not-zero, is-sound, present, shown-here, slots-here words many some most long) q,
+          )

@@ -1,0 +1,78 @@
+// Deleting a key from a table, by writing the table of the keys that are left.
+ghost use mathlib.Core.Path.{_≡_};
+ghost use Prim.Native.Nat.{_<_, _≤_};
+ghost use lib.ListN.{length};
+ghost use Rattle.table.specs.Layout.{mostSlots, tableWords};
+ghost use Rattle.call_replies.specs.Replies.{deletedOf};
+ghost use Rattle.call_meaning.specs.Calls.{deleteReply, deleteAfter};
+use table_examine::Verdict;
+use call_replies::Deleted;
+use call_replies::Refusal;
+use table::ORDER_WORD;
+
+// Delete a key from a table of `many` slots, with `keys` to work in.
+fn delete_in(table: &mut [u64], many: usize, key: u64, keys: &mut [u64]) -> Deleted
+    requires { ⌜ (0 < many) × (many ≤ mostSlots) × (length (now table) ≡ tableWords many) × (1 ≤ key) × (many ≤ length (now keys)) ⌝ }
+    ensures { λ r. ⌜ deletedOf r ≡ deleteReply (now (table .entry)) key ⌝ }
+    ensures { λ _. ⌜ now (table .exit) ≡ deleteAfter (now (table .entry)) key ⌝ }
+{
+    let order = table[ORDER_WORD];
+    let found = table_judge::examine_sized(table, many, keys);
+    let Verdict::Sound(n) = found else {
+        return Deleted::Refused(Refusal::NotSound);
+    };
+    if !table_entries::holds(table, many, key) {
+        return Deleted::Refused(Refusal::KeyAbsent);
+    }
+    let rank = table_entries::rank_of(table, many, key);
+    let left = call_sets::take_out(keys, n, key);
+    table_write::write(order, &keys[..left], many, table);
+    Deleted::Rank(rank)
+}
+
+// Delete a key from a table of up to 512 slots.
+fn delete_few(table: &mut [u64], many: usize, key: u64) -> Deleted
+    requires { ⌜ (0 < many) × (many ≤ 512) × (length (now table) ≡ tableWords many) × (1 ≤ key) ⌝ }
+    ensures { λ r. ⌜ deletedOf r ≡ deleteReply (now (table .entry)) key ⌝ }
+    ensures { λ _. ⌜ now (table .exit) ≡ deleteAfter (now (table .entry)) key ⌝ }
+{
+    let mut keys = [0u64; 512];
+    delete_in(table, many, key, &mut keys)
+}
+
+// Delete a key from a table of up to 4,096 slots.
+fn delete_many(table: &mut [u64], many: usize, key: u64) -> Deleted
+    requires { ⌜ (0 < many) × (many ≤ 4096) × (length (now table) ≡ tableWords many) × (1 ≤ key) ⌝ }
+    ensures { λ r. ⌜ deletedOf r ≡ deleteReply (now (table .entry)) key ⌝ }
+    ensures { λ _. ⌜ now (table .exit) ≡ deleteAfter (now (table .entry)) key ⌝ }
+{
+    let mut keys = [0u64; 4096];
+    delete_in(table, many, key, &mut keys)
+}
+
+// Delete a key from a table of `many` slots, the key not zero.
+fn delete_sized(table: &mut [u64], many: usize, key: u64) -> Deleted
+    requires { ⌜ (0 < many) × (many ≤ mostSlots) × (length (now table) ≡ tableWords many) × (1 ≤ key) ⌝ }
+    ensures { λ r. ⌜ deletedOf r ≡ deleteReply (now (table .entry)) key ⌝ }
+    ensures { λ _. ⌜ now (table .exit) ≡ deleteAfter (now (table .entry)) key ⌝ }
+{
+    if many <= 512 {
+        return delete_few(table, many, key);
+    }
+    delete_many(table, many, key)
+}
+
+// Delete a key; the rank that it had. Refusals: 1, 3, 7, 9.
+pub fn delete(table: &mut [u64], key: u64) -> Deleted
+    ensures { λ r. ⌜ deletedOf r ≡ deleteReply (now (table .entry)) key ⌝ }
+    ensures { λ _. ⌜ now (table .exit) ≡ deleteAfter (now (table .entry)) key ⌝ }
+{
+    let many = table_limits::slots_for(table.len());
+    if many == 0 {
+        return Deleted::Refused(Refusal::WrongLength);
+    }
+    if key == 0 {
+        return Deleted::Refused(Refusal::ZeroKey);
+    }
+    delete_sized(table, many, key)
+}

@@ -1,0 +1,125 @@
+// Writing the image of a table, and making a table of an image. Each call takes any words and any bytes; what it refuses it leaves
+// as it was.
+ghost use mathlib.Core.Path.{_≡_};
+ghost use Prim.Native.Nat.{_+_, _*_, _<_, _≤_};
+ghost use lib.ListN.{length};
+ghost use Rattle.table.specs.Layout.{mostSlots, tableWords};
+ghost use Rattle.image.specs.Layout.{headerBytes, nodeBytes};
+ghost use Rattle.image_collect.specs.Reading.{RoomFor};
+ghost use Rattle.call_replies.specs.Replies.{writtenOf, readBackOf};
+ghost use Rattle.call_meaning.specs.Calls.{writeReply, writeOutput, readReply, readAfter};
+use table_examine::Verdict;
+use image::MEDIUM_BYTES;
+use image::ORDER_AT;
+use image::ORDER_BYTES;
+use image_recognize::Recognized;
+use call_replies::ReadBack;
+use call_replies::Refusal;
+use call_replies::Written;
+use table::ORDER_WORD;
+
+// Write the image of a table of `many` slots, with `keys` to work in.
+fn write_in(table: &[u64], many: usize, keys: &mut [u64], output: &mut [u8]) -> Written
+    requires { ⌜ (0 < many) × (many ≤ mostSlots) × (length (now table) ≡ tableWords many) × (many ≤ length (now keys)) ⌝ }
+    ensures { λ r. ⌜ writtenOf r ≡ writeReply (now (table .entry)) (now (output .entry)) ⌝ }
+    ensures { λ _. ⌜ now (output .exit) ≡ writeOutput (now (table .entry)) (now (output .entry)) ⌝ }
+{
+    let order = table[ORDER_WORD];
+    let found = table_judge::examine_sized(table, many, keys);
+    let Verdict::Sound(n) = found else {
+        return Written::Refused(Refusal::NotSound);
+    };
+    let size = image_write::write(order, &keys[..n], output);
+    if output.len() < size {
+        return Written::Refused(Refusal::OutputTooShort);
+    }
+    Written::Bytes(size)
+}
+
+// The image of a table of up to 512 slots.
+fn write_few(table: &[u64], many: usize, output: &mut [u8]) -> Written
+    requires { ⌜ (0 < many) × (many ≤ 512) × (length (now table) ≡ tableWords many) ⌝ }
+    ensures { λ r. ⌜ writtenOf r ≡ writeReply (now (table .entry)) (now (output .entry)) ⌝ }
+    ensures { λ _. ⌜ now (output .exit) ≡ writeOutput (now (table .entry)) (now (output .entry)) ⌝ }
+{
+    let mut keys = [0u64; 512];
+    write_in(table, many, &mut keys, output)
+}
+
+// The image of a table of up to 4,096 slots.
+fn write_many(table: &[u64], many: usize, output: &mut [u8]) -> Written
+    requires { ⌜ (0 < many) × (many ≤ 4096) × (length (now table) ≡ tableWords many) ⌝ }
+    ensures { λ r. ⌜ writtenOf r ≡ writeReply (now (table .entry)) (now (output .entry)) ⌝ }
+    ensures { λ _. ⌜ now (output .exit) ≡ writeOutput (now (table .entry)) (now (output .entry)) ⌝ }
+{
+    let mut keys = [0u64; 4096];
+    write_in(table, many, &mut keys, output)
+}
+
+// Write the table's image at the start of `output`; how many bytes it has. Refusals: 1, 7, 11.
+pub fn write(table: &[u64], output: &mut [u8]) -> Written
+    ensures { λ r. ⌜ writtenOf r ≡ writeReply (now (table .entry)) (now (output .entry)) ⌝ }
+    ensures { λ _. ⌜ now (output .exit) ≡ writeOutput (now (table .entry)) (now (output .entry)) ⌝ }
+{
+    let many = table_limits::slots_for(table.len());
+    if many == 0 {
+        return Written::Refused(Refusal::WrongLength);
+    }
+    if many <= 512 {
+        return write_few(table, many, output);
+    }
+    write_many(table, many, output)
+}
+
+// Make a table of `many` slots of an image, with `keys` to work in.
+fn read_in(table: &mut [u64], many: usize, image: &[u8], keys: &mut [u64]) -> ReadBack
+    requires { ⌜ (0 < many) × (many ≤ mostSlots) × (length (now table) ≡ tableWords many) × RoomFor (length (now image)) (length (now keys)) ⌝ }
+    ensures { λ r. ⌜ readBackOf r ≡ readReply (now (table .entry)) (now (image .entry)) ⌝ }
+    ensures { λ _. ⌜ now (table .exit) ≡ readAfter (now (table .entry)) (now (image .entry)) ⌝ }
+{
+    let found = image_recognize::recognize(image, keys);
+    let Recognized::Image(n) = found else {
+        return ReadBack::Refused(Refusal::NotAnImage);
+    };
+    if many < n {
+        return ReadBack::Refused(Refusal::TooManyKeys);
+    }
+    let order = image_fields::get(image, ORDER_AT, ORDER_BYTES);
+    table_write::write(order, &keys[..n], many, table);
+    ReadBack::Done
+}
+
+// With room for the keys of an image of up to 15,375 bytes.
+fn read_few(table: &mut [u64], many: usize, image: &[u8]) -> ReadBack
+    requires { ⌜ (0 < many) × (many ≤ mostSlots) × (length (now table) ≡ tableWords many) × (length (now image) ≤ headerBytes + nodeBytes * 512) ⌝ }
+    ensures { λ r. ⌜ readBackOf r ≡ readReply (now (table .entry)) (now (image .entry)) ⌝ }
+    ensures { λ _. ⌜ now (table .exit) ≡ readAfter (now (table .entry)) (now (image .entry)) ⌝ }
+{
+    let mut keys = [0u64; 512];
+    read_in(table, many, image, &mut keys)
+}
+
+// With room for the most keys that an image has.
+fn read_many(table: &mut [u64], many: usize, image: &[u8]) -> ReadBack
+    requires { ⌜ (0 < many) × (many ≤ mostSlots) × (length (now table) ≡ tableWords many) ⌝ }
+    ensures { λ r. ⌜ readBackOf r ≡ readReply (now (table .entry)) (now (image .entry)) ⌝ }
+    ensures { λ _. ⌜ now (table .exit) ≡ readAfter (now (table .entry)) (now (image .entry)) ⌝ }
+{
+    let mut keys = [0u64; 4096];
+    read_in(table, many, image, &mut keys)
+}
+
+// Make of any words of a right length the table whose image the bytes are. Refusals: 1, 6, 10.
+pub fn read(table: &mut [u64], image: &[u8]) -> ReadBack
+    ensures { λ r. ⌜ readBackOf r ≡ readReply (now (table .entry)) (now (image .entry)) ⌝ }
+    ensures { λ _. ⌜ now (table .exit) ≡ readAfter (now (table .entry)) (now (image .entry)) ⌝ }
+{
+    let many = table_limits::slots_for(table.len());
+    if many == 0 {
+        return ReadBack::Refused(Refusal::WrongLength);
+    }
+    if image.len() <= MEDIUM_BYTES {
+        return read_few(table, many, image);
+    }
+    read_many(table, many, image)
+}

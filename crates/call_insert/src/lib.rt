@@ -1,0 +1,80 @@
+// Inserting a key into a table, by writing the table of the keys that result.
+ghost use mathlib.Core.Path.{_≡_};
+ghost use Prim.Native.Nat.{_<_, _≤_};
+ghost use lib.ListN.{length};
+ghost use Rattle.table.specs.Layout.{mostSlots, tableWords};
+ghost use Rattle.call_replies.specs.Replies.{insertedOf};
+ghost use Rattle.call_meaning.specs.Calls.{insertReply, insertAfter};
+use table_examine::Verdict;
+use call_replies::Inserted;
+use call_replies::Refusal;
+use table::ORDER_WORD;
+
+// Insert a key into a table of `many` slots, with `keys` to work in.
+fn insert_in(table: &mut [u64], many: usize, key: u64, keys: &mut [u64]) -> Inserted
+    requires { ⌜ (0 < many) × (many ≤ mostSlots) × (length (now table) ≡ tableWords many) × (1 ≤ key) × (many ≤ length (now keys)) ⌝ }
+    ensures { λ r. ⌜ insertedOf r ≡ insertReply (now (table .entry)) key ⌝ }
+    ensures { λ _. ⌜ now (table .exit) ≡ insertAfter (now (table .entry)) key ⌝ }
+{
+    let order = table[ORDER_WORD];
+    let found = table_judge::examine_sized(table, many, keys);
+    let Verdict::Sound(n) = found else {
+        return Inserted::Refused(Refusal::NotSound);
+    };
+    if table_entries::holds(table, many, key) {
+        return Inserted::Refused(Refusal::KeyHeld);
+    }
+    if n == many {
+        return Inserted::Refused(Refusal::TooManyKeys);
+    }
+    call_sets::put_in(keys, n, key);
+    table_write::write(order, &keys[..n + 1], many, table);
+    Inserted::Rank(table_entries::rank_of(table, many, key))
+}
+
+// Insert a key into a table of up to 512 slots.
+fn insert_few(table: &mut [u64], many: usize, key: u64) -> Inserted
+    requires { ⌜ (0 < many) × (many ≤ 512) × (length (now table) ≡ tableWords many) × (1 ≤ key) ⌝ }
+    ensures { λ r. ⌜ insertedOf r ≡ insertReply (now (table .entry)) key ⌝ }
+    ensures { λ _. ⌜ now (table .exit) ≡ insertAfter (now (table .entry)) key ⌝ }
+{
+    let mut keys = [0u64; 512];
+    insert_in(table, many, key, &mut keys)
+}
+
+// Insert a key into a table of up to 4,096 slots.
+fn insert_many(table: &mut [u64], many: usize, key: u64) -> Inserted
+    requires { ⌜ (0 < many) × (many ≤ 4096) × (length (now table) ≡ tableWords many) × (1 ≤ key) ⌝ }
+    ensures { λ r. ⌜ insertedOf r ≡ insertReply (now (table .entry)) key ⌝ }
+    ensures { λ _. ⌜ now (table .exit) ≡ insertAfter (now (table .entry)) key ⌝ }
+{
+    let mut keys = [0u64; 4096];
+    insert_in(table, many, key, &mut keys)
+}
+
+// Insert a key into a table of `many` slots, the key not zero.
+fn insert_sized(table: &mut [u64], many: usize, key: u64) -> Inserted
+    requires { ⌜ (0 < many) × (many ≤ mostSlots) × (length (now table) ≡ tableWords many) × (1 ≤ key) ⌝ }
+    ensures { λ r. ⌜ insertedOf r ≡ insertReply (now (table .entry)) key ⌝ }
+    ensures { λ _. ⌜ now (table .exit) ≡ insertAfter (now (table .entry)) key ⌝ }
+{
+    if many <= 512 {
+        return insert_few(table, many, key);
+    }
+    insert_many(table, many, key)
+}
+
+// Insert a key; the rank that it then has. Refusals: 1, 3, 7, 8, 10.
+pub fn insert(table: &mut [u64], key: u64) -> Inserted
+    ensures { λ r. ⌜ insertedOf r ≡ insertReply (now (table .entry)) key ⌝ }
+    ensures { λ _. ⌜ now (table .exit) ≡ insertAfter (now (table .entry)) key ⌝ }
+{
+    let many = table_limits::slots_for(table.len());
+    if many == 0 {
+        return Inserted::Refused(Refusal::WrongLength);
+    }
+    if key == 0 {
+        return Inserted::Refused(Refusal::ZeroKey);
+    }
+    insert_sized(table, many, key)
+}

@@ -1,0 +1,163 @@
+-- What each call replies and leaves behind, from what it is handed. Assumes nothing.
+use mathlib.Core.Bool.{cond}
+use mathlib.Core.List.{List, [], _∷_, _++_}
+use Prim.Native.Nat.{ℕ}
+use lib.ListN.{length}
+use Rattle.lists.specs.Lists.{member, overwrite}
+use Rattle.priority.specs.Priority.{priorityOf}
+use Rattle.treap.specs.Levels.{rank, count, leader}
+use Rattle.treap.specs.Blocks.{blocksMet}
+use Rattle.table.specs.Contents.{Contents}
+use Rattle.table.specs.Table.{fresh}
+use Rattle.image.specs.Image.{imageOf, readImage}
+use Rattle.call_sets.specs.Edit.{joined, without}
+use Rattle.table_limits.specs.Lengths.{slotsFor}
+use Rattle.intervals.specs.Intervals.{within}
+use Rattle.call_replies.specs.Replies.{Reply, lowest, unlessRefused}
+use Rattle.call_meaning.specs.Reasons.{wrongLength, wrongOrder, zeroKey, lowAboveHigh, notRising, notAnImage, notSound, keyHeld, keyAbsent, tooManyKeys, outputTooShort, shown}
+
+-- The table of an order and keys, of so many slots as the words have.
+unfoldable pub rewritten : List ℕ → Contents → List ℕ
+rewritten words c = fresh (slotsFor (length words)) c
+
+-- A key's rank among those of an order and a set.
+unfoldable pub rankIn : Contents → ℕ → ℕ
+rankIn c key = rank (c .order) priorityOf (c .keys) key
+
+-- "Set-up uses 1, 2."
+unfoldable pub setUpRefusal : List ℕ → ℕ → ℕ
+setUpRefusal words order = lowest (wrongLength words ∷ wrongOrder order ∷ [])
+
+unfoldable pub setUpReply : List ℕ → ℕ → Reply
+setUpReply words order = record { refusal = setUpRefusal words order; numbers = [] }
+
+-- "Set-up writes a blank table."
+unfoldable pub setUpAfter : List ℕ → ℕ → List ℕ
+setUpAfter words order = unlessRefused (setUpRefusal words order) (rewritten words (record { order = order; keys = [] })) words
+
+-- "Build 1, 2, 5, 10."
+unfoldable pub buildRefusal : List ℕ → ℕ → List ℕ → ℕ
+buildRefusal words order list =
+    lowest (wrongLength words ∷ wrongOrder order ∷ notRising list ∷ tooManyKeys words (length list) ∷ [])
+
+unfoldable pub buildReply : List ℕ → ℕ → List ℕ → Reply
+buildReply words order list = record { refusal = buildRefusal words order list; numbers = [] }
+
+-- "An accepted build writes it, whatever the lent words held."
+unfoldable pub buildAfter : List ℕ → ℕ → List ℕ → List ℕ
+buildAfter words order list = unlessRefused (buildRefusal words order list) (rewritten words (record { order = order; keys = list })) words
+
+-- The order and the set that the words show, with a key that joins the set, and with one that leaves it.
+unfoldable pub grown : List ℕ → ℕ → Contents
+grown words key = record { order = shown words .order; keys = joined key (shown words .keys) }
+
+unfoldable pub shrunk : List ℕ → ℕ → Contents
+shrunk words key = record { order = shown words .order; keys = without key (shown words .keys) }
+
+-- "Insert 1, 3, 7, 8, 10."
+unfoldable pub insertRefusal : List ℕ → ℕ → ℕ
+insertRefusal words key =
+    lowest
+    (wrongLength words
+    ∷ zeroKey key
+    ∷ notSound words
+    ∷ keyHeld words key
+    ∷ tooManyKeys words (length (grown words key .keys))
+    ∷ [])
+
+-- "Insert and delete give the key's rank (for delete, the rank it had)."
+unfoldable pub insertReply : List ℕ → ℕ → Reply
+insertReply words key =
+    record {
+      refusal = insertRefusal words key;
+      numbers = unlessRefused (insertRefusal words key) (rankIn (grown words key) key ∷ []) (0 ∷ []);
+    }
+
+unfoldable pub insertAfter : List ℕ → ℕ → List ℕ
+insertAfter words key = unlessRefused (insertRefusal words key) (rewritten words (grown words key)) words
+
+-- "Delete 1, 3, 7, 9."
+unfoldable pub deleteRefusal : List ℕ → ℕ → ℕ
+deleteRefusal words key = lowest (wrongLength words ∷ zeroKey key ∷ notSound words ∷ keyAbsent words key ∷ [])
+
+unfoldable pub deleteReply : List ℕ → ℕ → Reply
+deleteReply words key =
+    record {
+      refusal = deleteRefusal words key;
+      numbers = unlessRefused (deleteRefusal words key) (rankIn (shown words) key ∷ []) (0 ∷ []);
+    }
+
+unfoldable pub deleteAfter : List ℕ → ℕ → List ℕ
+deleteAfter words key = unlessRefused (deleteRefusal words key) (rewritten words (shrunk words key)) words
+
+-- "Lookup 1, 3, 7."
+unfoldable pub lookupRefusal : List ℕ → ℕ → ℕ
+lookupRefusal words key = lowest (wrongLength words ∷ zeroKey key ∷ notSound words ∷ [])
+
+-- "Lookup gives held or absent, and rank, count and leader (zeros when absent)": one for held, zero for absent, and these.
+unfoldable pub standingIn : Contents → ℕ → List ℕ
+standingIn c key =
+    cond (member key (c .keys))
+    (1 ∷ rankIn c key ∷ count (c .order) priorityOf (c .keys) key ∷ leader (c .order) priorityOf (c .keys) key ∷ [])
+    (0 ∷ 0 ∷ 0 ∷ 0 ∷ [])
+
+-- "It also gives the number of different blocks that hold the keys it compares on its way down."
+unfoldable pub lookupReply : List ℕ → ℕ → Reply
+lookupReply words key =
+    record {
+      refusal = lookupRefusal words key;
+      numbers =
+          unlessRefused (lookupRefusal words key)
+          (standingIn (shown words) key ++ (blocksMet (shown words .order) priorityOf (shown words .keys) key ∷ []))
+          (0 ∷ 0 ∷ 0 ∷ 0 ∷ 0 ∷ []);
+    }
+
+-- "Range 1, 4, 7, 11."
+unfoldable pub rangeRefusal : List ℕ → ℕ → ℕ → List ℕ → ℕ
+rangeRefusal words low high output =
+    lowest
+    (wrongLength words
+    ∷ lowAboveHigh low high
+    ∷ notSound words
+    ∷ outputTooShort (length output) (length (within low high (shown words .keys)))
+    ∷ [])
+
+-- "Range writes the held keys from low to high, both included, rising, and their number; later output words are unchanged."
+unfoldable pub rangeReply : List ℕ → ℕ → ℕ → List ℕ → Reply
+rangeReply words low high output =
+    record {
+      refusal = rangeRefusal words low high output;
+      numbers = unlessRefused (rangeRefusal words low high output) (length (within low high (shown words .keys)) ∷ []) (0 ∷ []);
+    }
+
+unfoldable pub rangeOutput : List ℕ → ℕ → ℕ → List ℕ → List ℕ
+rangeOutput words low high output =
+    unlessRefused (rangeRefusal words low high output) (overwrite output 0 (within low high (shown words .keys))) output
+
+-- "Writer 1, 7, 11."
+unfoldable pub writeRefusal : List ℕ → List ℕ → ℕ
+writeRefusal words output =
+    lowest (wrongLength words ∷ notSound words ∷ outputTooShort (length output) (length (imageOf (shown words))) ∷ [])
+
+-- "The writer gives it", the image's length, "and changes no later output byte."
+unfoldable pub writeReply : List ℕ → List ℕ → Reply
+writeReply words output =
+    record {
+      refusal = writeRefusal words output;
+      numbers = unlessRefused (writeRefusal words output) (length (imageOf (shown words)) ∷ []) (0 ∷ []);
+    }
+
+unfoldable pub writeOutput : List ℕ → List ℕ → List ℕ
+writeOutput words output = unlessRefused (writeRefusal words output) (overwrite output 0 (imageOf (shown words))) output
+
+-- "Reader 1, 6, 10."
+unfoldable pub readRefusal : List ℕ → List ℕ → ℕ
+readRefusal words bytes =
+    lowest (wrongLength words ∷ notAnImage bytes ∷ tooManyKeys words (length (readImage bytes .keys)) ∷ [])
+
+unfoldable pub readReply : List ℕ → List ℕ → Reply
+readReply words bytes = record { refusal = readRefusal words bytes; numbers = [] }
+
+-- The table for "the order and set whose image the bytes are".
+unfoldable pub readAfter : List ℕ → List ℕ → List ℕ
+readAfter words bytes = unlessRefused (readRefusal words bytes) (rewritten words (readImage bytes)) words

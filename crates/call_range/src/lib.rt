@@ -1,0 +1,73 @@
+// Writing out the keys of a range of a table of any words.
+ghost use mathlib.Core.Path.{_≡_};
+ghost use Prim.Native.Nat.{_<_, _≤_};
+ghost use lib.ListN.{length};
+ghost use Rattle.table.specs.Layout.{mostSlots, tableWords};
+ghost use Rattle.call_replies.specs.Replies.{rangedOf};
+ghost use Rattle.call_meaning.specs.Calls.{rangeReply, rangeOutput};
+use table_examine::Verdict;
+use call_replies::Ranged;
+use call_replies::Refusal;
+
+// The range of a table of `many` slots, with `keys` to work in.
+fn range_in(
+    table: &[u64],
+    many: usize,
+    low: u64,
+    high: u64,
+    keys: &mut [u64],
+    output: &mut [u64],
+) -> Ranged
+    requires { ⌜ (0 < many) × (many ≤ mostSlots) × (length (now table) ≡ tableWords many) × (low ≤ high) × (many ≤ length (now keys)) ⌝ }
+    ensures { λ r. ⌜ rangedOf r ≡ rangeReply (now (table .entry)) low high (now (output .entry)) ⌝ }
+    ensures { λ _. ⌜ now (output .exit) ≡ rangeOutput (now (table .entry)) low high (now (output .entry)) ⌝ }
+{
+    let found = table_judge::examine_sized(table, many, keys);
+    let Verdict::Sound(n) = found else {
+        return Ranged::Refused(Refusal::NotSound);
+    };
+    let wanted = intervals::count_within(keys, n, low, high);
+    if output.len() < wanted {
+        return Ranged::Refused(Refusal::OutputTooShort);
+    }
+    intervals::copy_within(keys, n, low, high, output);
+    Ranged::Wrote(wanted)
+}
+
+// The range of a table of up to 512 slots.
+fn range_few(table: &[u64], many: usize, low: u64, high: u64, output: &mut [u64]) -> Ranged
+    requires { ⌜ (0 < many) × (many ≤ 512) × (length (now table) ≡ tableWords many) × (low ≤ high) ⌝ }
+    ensures { λ r. ⌜ rangedOf r ≡ rangeReply (now (table .entry)) low high (now (output .entry)) ⌝ }
+    ensures { λ _. ⌜ now (output .exit) ≡ rangeOutput (now (table .entry)) low high (now (output .entry)) ⌝ }
+{
+    let mut keys = [0u64; 512];
+    range_in(table, many, low, high, &mut keys, output)
+}
+
+// The range of a table of up to 4,096 slots.
+fn range_many(table: &[u64], many: usize, low: u64, high: u64, output: &mut [u64]) -> Ranged
+    requires { ⌜ (0 < many) × (many ≤ 4096) × (length (now table) ≡ tableWords many) × (low ≤ high) ⌝ }
+    ensures { λ r. ⌜ rangedOf r ≡ rangeReply (now (table .entry)) low high (now (output .entry)) ⌝ }
+    ensures { λ _. ⌜ now (output .exit) ≡ rangeOutput (now (table .entry)) low high (now (output .entry)) ⌝ }
+{
+    let mut keys = [0u64; 4096];
+    range_in(table, many, low, high, &mut keys, output)
+}
+
+// Write at the start of `output` the keys that the table holds from `low` to `high`, both included, rising. Refusals: 1, 4, 7, 11.
+pub fn range(table: &[u64], low: u64, high: u64, output: &mut [u64]) -> Ranged
+    ensures { λ r. ⌜ rangedOf r ≡ rangeReply (now (table .entry)) low high (now (output .entry)) ⌝ }
+    ensures { λ _. ⌜ now (output .exit) ≡ rangeOutput (now (table .entry)) low high (now (output .entry)) ⌝ }
+{
+    let many = table_limits::slots_for(table.len());
+    if many == 0 {
+        return Ranged::Refused(Refusal::WrongLength);
+    }
+    if high < low {
+        return Ranged::Refused(Refusal::LowAboveHigh);
+    }
+    if many <= 512 {
+        return range_few(table, many, low, high, output);
+    }
+    range_many(table, many, low, high, output)
+}

@@ -1,4 +1,0 @@
--- The laws of `decode`.
-mod Neighbours
-mod Gathered
-pub mod RisingKeys

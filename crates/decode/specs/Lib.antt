@@ -1,2 +1,0 @@
--- The definitions that the contracts of `decode` cite.
-pub mod Decode

@@ -1,2 +1,0 @@
--- The definitions that the contracts of `edit` cite.
-pub mod Edit

@@ -1,0 +1,2 @@
+-- The definitions that the contracts of `image_collect` cite.
+pub mod Reading

@@ -1,0 +1,89 @@
+-- The whole image from its header and its blocks: its length, and that it is written once they are. Assumes nothing.
+use mathlib.Core.Bool.{Bool, true, false, cond}
+use mathlib.Core.List.{List, [], _∷_, _++_, flatMap}
+use mathlib.Core.Path.{_≡_, refl, ap, ap₂, _∙_}
+use Prim.Native.Nat.{ℕ, suc, _+_, _*_, _≤_}
+use native.Mathlib.Omega.{arith}
+use lib.ListN.{length, length-append}
+use Rattle.lists.specs.Lists.{overwrite, joinRun, runs}
+use Rattle.lists.proofs.Parts.{overwrite-next}
+use Rattle.treap.specs.Image.{headerRecord}
+use Rattle.image.specs.Layout.{headerBytes, blockBytes, nodeBytes}
+use Rattle.table_encode.specs.Encode.{Columns, keyAt}
+use Rattle.image.proofs.Records.{header-length}
+use Rattle.image_blocks.specs.Naming.{sameWeight}
+use Rattle.image_parts.specs.Parts.{blockAt, blocksAt, imageAt}
+use Rattle.image_parts.proofs.Nodes.{block-at-length}
+
+-- ---- runs: together they are the list, and they are no more than its elements
+module _ (alike : ℕ → ℕ → Bool) where
+  joined-whole : (x : ℕ) (rs : List (List ℕ)) → flatMap (λ r. r) (joinRun alike x rs) ≡ x ∷ flatMap (λ r. r) rs
+  unfolding flatMap
+  joined-whole x [] = refl
+  joined-whole x ([] ∷ rs) = refl
+  joined-whole x ((y ∷ r) ∷ rs) = by (alike x y)
+    where
+      by : (b : Bool) → flatMap (λ s. s) (cond b ((x ∷ y ∷ r) ∷ rs) ((x ∷ []) ∷ (y ∷ r) ∷ rs)) ≡ x ∷ (y ∷ r) ++ flatMap (λ s. s) rs
+      by true = refl
+      by false = refl
+
+  pub runs-whole : (xs : List ℕ) → flatMap (λ r. r) (runs alike xs) ≡ xs
+  unfolding flatMap
+  runs-whole [] = refl
+  runs-whole (x ∷ xs) = joined-whole x (runs alike xs) ∙ ap (λ (ys : List ℕ). x ∷ ys) (runs-whole xs)
+
+  joined-few : (x : ℕ) (rs : List (List ℕ)) → length (joinRun alike x rs) ≤ suc (length rs)
+  joined-few x [] = omega arith
+  joined-few x ([] ∷ rs) = omega arith
+  joined-few x ((y ∷ r) ∷ rs) = by (alike x y)
+    where
+      by : (b : Bool) → length (cond b ((x ∷ y ∷ r) ∷ rs) ((x ∷ []) ∷ (y ∷ r) ∷ rs)) ≤ suc (suc (length rs))
+      by true = omega arith
+      by false = omega arith
+
+  pub runs-few : (xs : List ℕ) → length (runs alike xs) ≤ length xs
+  runs-few [] = omega arith
+  runs-few (x ∷ xs) = omega (arith, joined-few x (runs alike xs), runs-few xs)
+
+module _ (order : ℕ) (keys : List ℕ) (root : ℕ) (c : Columns) (weights sorted : List ℕ) where
+  -- ---- lengths
+  parts-length : (rs : List (List ℕ)) → length (flatMap (blockAt keys root c) rs) ≡ blockBytes * length rs + nodeBytes * length (flatMap (λ r. r) rs)
+  unfolding flatMap
+  parts-length [] = refl
+  parts-length (r ∷ rs) =
+      length-append (blockAt keys root c r) (flatMap (blockAt keys root c) rs)
+      ∙ omega (arith, block-at-length keys root c r, parts-length rs, length-append r (flatMap (λ s. s) rs))
+
+  blocks-length : length (blocksAt keys root c weights sorted) ≡ blockBytes * length (runs (sameWeight weights) sorted) + nodeBytes * length sorted
+  unfolding blocksAt
+  blocks-length =
+      parts-length (runs (sameWeight weights) sorted)
+      ∙ ap (λ (xs : List ℕ). blockBytes * length (runs (sameWeight weights) sorted) + nodeBytes * length xs) (runs-whole (sameWeight weights) sorted)
+
+  module _ (blocks : ℕ) (counted : blocks ≡ length (runs (sameWeight weights) sorted)) (all : length sorted ≡ length keys) where
+    pub image-at-length : headerBytes + blockBytes * blocks + nodeBytes * length keys ≡ length (imageAt order keys root c weights sorted)
+    unfolding imageAt
+    image-at-length =
+        let head = headerRecord order (length keys) (length (runs (sameWeight weights) sorted)) (keyAt keys root) in
+        omega (arith, blocks-length, length-append head (blocksAt keys root c weights sorted), header-length order (length keys) (length (runs (sameWeight weights) sorted)) (keyAt keys root))
+
+    pub blocks-few : blocks ≤ length keys
+    blocks-few = omega (arith, runs-few (sameWeight weights) sorted)
+
+    -- the blocks have room behind the header
+    pub blocks-fit : (room : ℕ) → headerBytes + blockBytes * blocks + nodeBytes * length keys ≤ room → headerBytes + length (blocksAt keys root c weights sorted) ≤ room
+    blocks-fit room h = omega (arith, blocks-length)
+
+    -- ---- the header, then the blocks
+    pub image-written : (before headed output : List ℕ) (top : ℕ) → top ≡ keyAt keys root → headerBytes + blockBytes * blocks + nodeBytes * length keys ≤ length before
+        → headed ≡ overwrite before 0 (headerRecord order (length keys) blocks top)
+        → output ≡ overwrite headed headerBytes (blocksAt keys root c weights sorted)
+        → output ≡ overwrite before 0 (imageAt order keys root c weights sorted)
+    unfolding imageAt
+    image-written before headed output top e room h o =
+        let head = headerRecord order (length keys) blocks top in
+        let rest = blocksAt keys root c weights sorted in
+        o
+        ∙ ap (λ (xs : List ℕ). overwrite xs headerBytes rest) h
+        ∙ overwrite-next 0 headerBytes head before (omega (arith, header-length order (length keys) blocks top)) (omega arith) rest (omega (arith, blocks-length))
+        ∙ ap₂ (λ (b r : ℕ). overwrite before 0 (headerRecord order (length keys) b r ++ rest)) counted e

@@ -1,0 +1,82 @@
+-- `image_parts::put_key` meets its contract. Assumes nothing.
+use mathlib.Core.Path.{ap, _∙_}
+use Rattle.lists.specs.Lists.{overwrite}
+use Rattle.image_parts.proofs.Nodes.{node-is}
+use borrow.Author.Needs.{needs}
+use Rattle.image_parts.proofs.put_key.Statement.{statement}
+use Rattle.image_parts.proofs.put_key.Tie as tie
+use Rattle.image_parts.proofs.put_key.Reads as reads
+use Rattle.image_parts.proofs.put_key.Lts as lts
+use Rattle.table_encode.proofs.key_at.Reads as key-at-reads
+use Rattle.image_records.proofs.put_node.Reads as put-node-reads
+
+mul-key-at : tie.Need-mul-key-at
+mul-key-at c = search needs
+
+shared-slice-read-key-at : tie.Need-shared-slice-read-key-at
+shared-slice-read-key-at c = search needs
+
+key-at-requires : tie.Need-key-at-requires
+key-at-requires c κs =
+    let start = c .before .before .before .before .before .before .before in
+    start .pre .0 .left-within (start .args .i) (start .pre .1 .0)
+
+mul-key-at-2 : tie.Need-mul-key-at-2
+mul-key-at-2 c = search needs
+
+shared-slice-read-key-at-2 : tie.Need-shared-slice-read-key-at-2
+shared-slice-read-key-at-2 c = search needs
+
+key-at-requires-2 : tie.Need-key-at-requires-2
+key-at-requires-2 c κs =
+    let start = c .before .before .before .before .before .before .before .before .before in
+    start .pre .0 .right-within (start .args .i) (start .pre .1 .0)
+
+mul-put-node : tie.Need-mul-put-node
+mul-put-node c = search needs
+
+shared-slice-read-put-node : tie.Need-shared-slice-read-put-node
+shared-slice-read-put-node c = search needs
+
+mul-put-node-2 : tie.Need-mul-put-node-2
+mul-put-node-2 c = search needs
+
+shared-slice-read-put-node-2 : tie.Need-shared-slice-read-put-node-2
+shared-slice-read-put-node-2 c = search needs
+
+mul-put-node-3 : tie.Need-mul-put-node-3
+mul-put-node-3 c = search needs
+
+shared-slice-read-put-node-3 : tie.Need-shared-slice-read-put-node-3
+shared-slice-read-put-node-3 c = search needs
+
+put-node-requires : tie.Need-put-node-requires
+put-node-requires c κs = search needs
+
+same-length : tie.Need-same-length
+same-length c = search needs
+
+returns : tie.Need-returns
+returns c =
+    let start = c .before .before .before .before .before .before .before .before .before .before .before .before .before .before .before .before .before in
+    c .before .before .put-node .ensures ∙ ap (overwrite (start .args .output .now) (start .args .at)) (node-is (start .args .keys .now) (start .args .left .now) (start .args .right .now) (start .args .rank .now) (start .args .count .now) (start .args .i) _ _ (c .before .before .before .before .before .before .before .before .before .key-at .ensures) (c .before .before .before .before .before .before .before .key-at2 .ensures))
+
+pub put-key-spec : {M : Type 1} → statement M
+put-key-spec =
+    tie.close
+    (tie.spec
+    mul-key-at
+    shared-slice-read-key-at
+    key-at-requires
+    mul-key-at-2
+    shared-slice-read-key-at-2
+    key-at-requires-2
+    mul-put-node
+    shared-slice-read-put-node
+    mul-put-node-2
+    shared-slice-read-put-node-2
+    mul-put-node-3
+    shared-slice-read-put-node-3
+    put-node-requires
+    same-length
+    returns)

@@ -1,0 +1,190 @@
+// The parts of an image: the records of keys and of blocks, from the columns of the keys by index, and the whole of them.
+ghost use mathlib.Core.Path.{_≡_};
+ghost use mathlib.Core.List.{flatMap};
+ghost use Prim.Native.Nat.{_+_, _*_, _-_, _<_, _≤_};
+ghost use lib.ListN.{length};
+ghost use lib.Seq.{slice};
+ghost use Rattle.lists.specs.Lists.{All, overwrite};
+ghost use Rattle.image.specs.Layout.{headerBytes, blockBytes, nodeBytes};
+ghost use Rattle.image_blocks.specs.Naming.{Ranked};
+ghost use Rattle.image_parts.specs.Parts.{nodeAt, blockAt, blocksAt, Listed, imageAt};
+ghost use Rattle.image_parts.specs.Written.{writtenTo};
+use image::BLOCK_BYTES;
+use image::HEADER_BYTES;
+use image::NODE_BYTES;
+
+// Write the record of the key at an index, from byte `at` on.
+fn put_key(
+    keys: &[u64],
+    left: &[u64],
+    right: &[u64],
+    rank: &[u64],
+    count: &[u64],
+    i: usize,
+    output: &mut [u8],
+    at: usize,
+)
+    requires { ⌜ Listed (now keys) (now left) (now right) (now rank) (now count) ⌝ }
+    requires { ⌜ (i < length (now keys)) × (at + nodeBytes ≤ length (now output)) ⌝ }
+    ensures { λ _. ⌜ now (output .exit) ≡ overwrite (now (output .entry)) at (nodeAt (now (keys .entry)) (now (left .entry)) (now (right .entry)) (now (rank .entry)) (now (count .entry)) i) ⌝ }
+{
+    let l = table_encode::key_at(keys, left[i]);
+    let r = table_encode::key_at(keys, right[i]);
+    image_records::put_node(output, at, keys[i], l, r, rank[i], count[i]);
+}
+
+// Write the records of the keys at the indices in `sorted` from `low` up to `high`, from byte `at` on.
+fn put_keys(
+    keys: &[u64],
+    left: &[u64],
+    right: &[u64],
+    rank: &[u64],
+    count: &[u64],
+    sorted: &[u64],
+    low: usize,
+    high: usize,
+    output: &mut [u8],
+    at: usize,
+)
+    requires { ⌜ Listed (now keys) (now left) (now right) (now rank) (now count) ⌝ }
+    requires { ⌜ (low ≤ high) × (high ≤ length (now sorted)) × All (λ i. i < length (now keys)) (now sorted) ⌝ }
+    requires { ⌜ at + nodeBytes * (high - low) ≤ length (now output) ⌝ }
+    ensures { λ _. ⌜ now (output .exit) ≡ overwrite (now (output .entry)) at (flatMap (nodeAt (now (keys .entry)) (now (left .entry)) (now (right .entry)) (now (rank .entry)) (now (count .entry))) (slice low high (now (sorted .entry)))) ⌝ }
+{
+    for j in low..high {
+        put_key(
+            keys,
+            left,
+            right,
+            rank,
+            count,
+            sorted[j] as usize,
+            output,
+            at + NODE_BYTES * (j - low),
+        );
+    }
+}
+
+// Write the part of the block that holds the keys at the indices in `sorted` from `low` up to `high`, from byte `at` on.
+fn put_part(
+    keys: &[u64],
+    root: u64,
+    left: &[u64],
+    right: &[u64],
+    rank: &[u64],
+    count: &[u64],
+    leader: &[u64],
+    sorted: &[u64],
+    low: usize,
+    high: usize,
+    output: &mut [u8],
+    at: usize,
+)
+    requires { ⌜ Listed (now keys) (now left) (now right) (now rank) (now count) ⌝ }
+    requires { ⌜ Ranked (length (now keys)) root (now rank) (now leader) ⌝ }
+    requires { ⌜ (low < high) × (high ≤ length (now sorted)) × All (λ i. i < length (now keys)) (now sorted) ⌝ }
+    requires { ⌜ at + blockBytes + nodeBytes * (high - low) ≤ length (now output) ⌝ }
+    ensures { λ _. ⌜ now (output .exit) ≡ overwrite (now (output .entry)) at (blockAt (now (keys .entry)) root (record { left = now (left .entry); right = now (right .entry); leader = now (leader .entry); rank = now (rank .entry); count = now (count .entry) }) (slice low high (now (sorted .entry)))) ⌝ }
+{
+    let i = sorted[low] as usize;
+    let level = image_blocks::names::level_at(root, rank, i);
+    let name = table_encode::key_at(keys, image_blocks::names::leader_at(root, leader, i));
+    image_records::put_block(output, at, name, level, (high - low) as u64);
+    put_keys(
+        keys,
+        left,
+        right,
+        rank,
+        count,
+        sorted,
+        low,
+        high,
+        output,
+        at + BLOCK_BYTES,
+    );
+}
+
+// Write the parts of all blocks, behind the header.
+fn put_blocks(
+    keys: &[u64],
+    root: u64,
+    left: &[u64],
+    right: &[u64],
+    rank: &[u64],
+    count: &[u64],
+    leader: &[u64],
+    weights: &[u64],
+    sorted: &[u64],
+    output: &mut [u8],
+)
+    requires { ⌜ Listed (now keys) (now left) (now right) (now rank) (now count) ⌝ }
+    requires { ⌜ Ranked (length (now keys)) root (now rank) (now leader) ⌝ }
+    requires { ⌜ (length (now weights) ≡ length (now keys)) × All (λ i. i < length (now keys)) (now sorted) ⌝ }
+    requires { ⌜ headerBytes + length (blocksAt (now keys) root (record { left = now left; right = now right; leader = now leader; rank = now rank; count = now count }) (now weights) (now sorted)) ≤ length (now output) ⌝ }
+    ensures { λ _. ⌜ now (output .exit) ≡ overwrite (now (output .entry)) headerBytes (blocksAt (now (keys .entry)) root (record { left = now (left .entry); right = now (right .entry); leader = now (leader .entry); rank = now (rank .entry); count = now (count .entry) }) (now (weights .entry)) (now (sorted .entry))) ⌝ }
+{
+    let mut low = 0;
+    let mut at = HEADER_BYTES;
+    while low < sorted.len() {
+        let high = image_blocks::runs::run_end(weights, sorted, low);
+        put_part(
+            keys,
+            root,
+            left,
+            right,
+            rank,
+            count,
+            leader,
+            sorted,
+            low,
+            high,
+            output,
+            at,
+        );
+        at = at + BLOCK_BYTES + NODE_BYTES * (high - low);
+        low = high;
+    }
+}
+
+// Write the image to the start of `output` where it has room for it. The image's length, in either case. Internal to this library's
+// crates.
+pub fn emit(
+    order: u64,
+    keys: &[u64],
+    root: u64,
+    left: &[u64],
+    right: &[u64],
+    rank: &[u64],
+    count: &[u64],
+    leader: &[u64],
+    weights: &[u64],
+    sorted: &[u64],
+    output: &mut [u8],
+) -> usize
+    requires { ⌜ Listed (now keys) (now left) (now right) (now rank) (now count) ⌝ }
+    requires { ⌜ Ranked (length (now keys)) root (now rank) (now leader) ⌝ }
+    requires { ⌜ (length (now weights) ≡ length (now keys)) × (length (now sorted) ≡ length (now keys)) × All (λ i. i < length (now keys)) (now sorted) ⌝ }
+    ensures { λ r. ⌜ r ≡ length (imageAt order (now (keys .entry)) root (record { left = now (left .entry); right = now (right .entry); leader = now (leader .entry); rank = now (rank .entry); count = now (count .entry) }) (now (weights .entry)) (now (sorted .entry))) ⌝ }
+    ensures { λ _. ⌜ now (output .exit) ≡ writtenTo (now (output .entry)) (imageAt order (now (keys .entry)) root (record { left = now (left .entry); right = now (right .entry); leader = now (leader .entry); rank = now (rank .entry); count = now (count .entry) }) (now (weights .entry)) (now (sorted .entry))) ⌝ }
+{
+    let blocks = image_blocks::runs::count_runs(weights, sorted);
+    let size = HEADER_BYTES + BLOCK_BYTES * blocks + NODE_BYTES * keys.len();
+    if output.len() < size {
+        return size;
+    }
+    let top = table_encode::key_at(keys, root);
+    image_records::put_header(output, 0, order, keys.len() as u64, blocks as u64, top);
+    put_blocks(
+        keys,
+        root,
+        left,
+        right,
+        rank,
+        count,
+        leader,
+        weights,
+        sorted,
+        output,
+    );
+    size
+}

@@ -1,0 +1,2 @@
+-- The definitions that the contracts of `image_recognize` cite.
+pub mod Recognize

@@ -1,0 +1,176 @@
+// Deciding whether bytes are an image: their keys are collected and sorted, and the image of what they show is compared with them.
+ghost use mathlib.Core.Bool.{true};
+ghost use mathlib.Core.Path.{_≡_};
+ghost use Prim.Native.Nat.{_+_, _*_, _≤_};
+ghost use lib.ListN.{length};
+ghost use Rattle.lists.specs.Lists.{overwrite, same};
+ghost use Rattle.table.specs.Layout.{mostSlots};
+ghost use Rattle.image.specs.Layout.{headerBytes, nodeBytes};
+ghost use Rattle.image.specs.Image.{readImage, isImage};
+ghost use Rattle.image_collect.specs.Reading.{RoomFor};
+ghost use Rattle.image_recognize.specs.Recognize.{recognized};
+use image::MEDIUM_BYTES;
+use image::MOST_BYTES;
+use image::ORDER_AT;
+use image::ORDER_BYTES;
+use image::SMALL_BYTES;
+use image_collect::Collected;
+use table::GREATEST_ORDER;
+use table::LEAST_ORDER;
+
+// What recognizing an image finds: how many keys it shows.
+pub enum Recognized {
+    Image(usize),
+    Other,
+}
+
+// Recognize an image, with lists to work in; where it is one, its keys, rising, are then at the start of `keys`. What the other lists
+// then hold is left open.
+fn recognize_in(
+    image: &[u8],
+    held: &mut [u64],
+    weights: &mut [u64],
+    ranking: &mut [u64],
+    spare: &mut [u64],
+    copy: &mut [u8],
+    keys: &mut [u64],
+) -> Recognized
+    requires { ⌜ (length (now held) ≤ mostSlots) × (length (now copy) ≡ length (now image)) ⌝ }
+    requires { ⌜ RoomFor (length (now image)) (length (now held)) × RoomFor (length (now image)) (length (now weights)) × RoomFor (length (now image)) (length (now ranking)) × RoomFor (length (now image)) (length (now spare)) × RoomFor (length (now image)) (length (now keys)) ⌝ }
+    ensures { λ r. ⌜ r ≡ recognized (now (image .entry)) ⌝ }
+    ensures { λ _. ⌜ (isImage (now (image .entry)) ≡ true → now (keys .exit) ≡ overwrite (now (keys .entry)) 0 (readImage (now (image .entry)) .keys)) ⌝ }
+{
+    let found = image_collect::collect(image, held);
+    let Collected::Keys(n) = found else {
+        return Recognized::Other;
+    };
+    let order = image_fields::get(image, ORDER_AT, ORDER_BYTES);
+    if !intervals::is_within(order, LEAST_ORDER, GREATEST_ORDER) {
+        return Recognized::Other;
+    }
+    table_decode::sort_keys(held, n, weights, ranking, spare, keys);
+    if !table_decode::is_rising(&keys[..n]) {
+        return Recognized::Other;
+    }
+    let size = image_write::write(order, &keys[..n], copy);
+    if size != image.len() {
+        return Recognized::Other;
+    }
+    if !image_equal::same_bytes(image, copy) {
+        return Recognized::Other;
+    }
+    Recognized::Image(n)
+}
+
+// The same with `copy` at least as long as the image.
+fn recognize_within(
+    image: &[u8],
+    held: &mut [u64],
+    weights: &mut [u64],
+    ranking: &mut [u64],
+    spare: &mut [u64],
+    copy: &mut [u8],
+    keys: &mut [u64],
+) -> Recognized
+    requires { ⌜ (length (now held) ≤ mostSlots) × (length (now image) ≤ length (now copy)) ⌝ }
+    requires { ⌜ RoomFor (length (now image)) (length (now held)) × RoomFor (length (now image)) (length (now weights)) × RoomFor (length (now image)) (length (now ranking)) × RoomFor (length (now image)) (length (now spare)) × RoomFor (length (now image)) (length (now keys)) ⌝ }
+    ensures { λ r. ⌜ r ≡ recognized (now (image .entry)) ⌝ }
+    ensures { λ _. ⌜ (isImage (now (image .entry)) ≡ true → now (keys .exit) ≡ overwrite (now (keys .entry)) 0 (readImage (now (image .entry)) .keys)) ⌝ }
+{
+    let size = image.len();
+    recognize_in(
+        image,
+        held,
+        weights,
+        ranking,
+        spare,
+        &mut copy[..size],
+        keys,
+    )
+}
+
+// An image of up to 1,935 bytes, which has at most 64 keys.
+fn recognize_small(image: &[u8], keys: &mut [u64]) -> Recognized
+    requires { ⌜ (length (now image) ≤ headerBytes + nodeBytes * 64) × RoomFor (length (now image)) (length (now keys)) ⌝ }
+    ensures { λ r. ⌜ r ≡ recognized (now (image .entry)) ⌝ }
+    ensures { λ _. ⌜ (isImage (now (image .entry)) ≡ true → now (keys .exit) ≡ overwrite (now (keys .entry)) 0 (readImage (now (image .entry)) .keys)) ⌝ }
+{
+    let mut held = [0u64; 64];
+    let mut weights = [0u64; 64];
+    let mut ranking = [0u64; 64];
+    let mut spare = [0u64; 64];
+    let mut copy = [0u8; SMALL_BYTES];
+    recognize_within(
+        image,
+        &mut held,
+        &mut weights,
+        &mut ranking,
+        &mut spare,
+        &mut copy,
+        keys,
+    )
+}
+
+// An image of up to 15,375 bytes, which has at most 512 keys.
+fn recognize_medium(image: &[u8], keys: &mut [u64]) -> Recognized
+    requires { ⌜ (length (now image) ≤ headerBytes + nodeBytes * 512) × RoomFor (length (now image)) (length (now keys)) ⌝ }
+    ensures { λ r. ⌜ r ≡ recognized (now (image .entry)) ⌝ }
+    ensures { λ _. ⌜ (isImage (now (image .entry)) ≡ true → now (keys .exit) ≡ overwrite (now (keys .entry)) 0 (readImage (now (image .entry)) .keys)) ⌝ }
+{
+    let mut held = [0u64; 512];
+    let mut weights = [0u64; 512];
+    let mut ranking = [0u64; 512];
+    let mut spare = [0u64; 512];
+    let mut copy = [0u8; MEDIUM_BYTES];
+    recognize_within(
+        image,
+        &mut held,
+        &mut weights,
+        &mut ranking,
+        &mut spare,
+        &mut copy,
+        keys,
+    )
+}
+
+// An image of up to 180,239 bytes.
+fn recognize_large(image: &[u8], keys: &mut [u64]) -> Recognized
+    requires { ⌜ (length (now image) ≤ 180239) × RoomFor (length (now image)) (length (now keys)) ⌝ }
+    ensures { λ r. ⌜ r ≡ recognized (now (image .entry)) ⌝ }
+    ensures { λ _. ⌜ (isImage (now (image .entry)) ≡ true → now (keys .exit) ≡ overwrite (now (keys .entry)) 0 (readImage (now (image .entry)) .keys)) ⌝ }
+{
+    let mut held = [0u64; 4096];
+    let mut weights = [0u64; 4096];
+    let mut ranking = [0u64; 4096];
+    let mut spare = [0u64; 4096];
+    let mut copy = [0u8; MOST_BYTES];
+    recognize_within(
+        image,
+        &mut held,
+        &mut weights,
+        &mut ranking,
+        &mut spare,
+        &mut copy,
+        keys,
+    )
+}
+
+// Recognize an image, with no more room than images of about its size need; where it is one, its keys, rising, are then at the start of
+// `keys`; else what `keys` holds is left open. Internal to this library's crates: their lists have room for the keys of an image of this
+// length.
+pub fn recognize(image: &[u8], keys: &mut [u64]) -> Recognized
+    requires { ⌜ RoomFor (length (now image)) (length (now keys)) ⌝ }
+    ensures { λ r. ⌜ r ≡ recognized (now (image .entry)) ⌝ }
+    ensures { λ _. ⌜ (isImage (now (image .entry)) ≡ true → now (keys .exit) ≡ overwrite (now (keys .entry)) 0 (readImage (now (image .entry)) .keys)) ⌝ }
+{
+    if MOST_BYTES < image.len() {
+        return Recognized::Other;
+    }
+    if image.len() <= SMALL_BYTES {
+        return recognize_small(image, keys);
+    }
+    if image.len() <= MEDIUM_BYTES {
+        return recognize_medium(image, keys);
+    }
+    recognize_large(image, keys)
+}

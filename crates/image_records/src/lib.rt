@@ -1,0 +1,85 @@
+// The records of an image, each written whole from a byte on.
+ghost use mathlib.Core.Path.{_≡_};
+ghost use mathlib.Core.List.{_∷_, []};
+ghost use Prim.Native.Nat.{_+_, _≤_};
+ghost use lib.ListN.{length};
+ghost use Rattle.lists.specs.Lists.{overwrite};
+ghost use Rattle.treap.specs.Image.{headerRecord, blockRecord, nodeRecord};
+ghost use Rattle.image.specs.Layout.{headerBytes, blockBytes, nodeBytes};
+use image::BLOCKS_AT;
+use image::COUNT_AT;
+use image::COUNT_BYTES;
+use image::HELD_AT;
+use image::KEY_AT;
+use image::KEY_BYTES;
+use image::LEADER_AT;
+use image::LEFT_AT;
+use image::LEVEL_AT;
+use image::ORDER_AT;
+use image::ORDER_BYTES;
+use image::RANK_AT;
+use image::RIGHT_AT;
+use image::ROOT_AT;
+use image::SIZE_AT;
+
+// The bytes of the marks: the first of every record, then the one that names its kind.
+const MARK: u8 = b'L';
+
+const HEADER_MARK: u8 = b'H';
+
+const BLOCK_MARK: u8 = b'B';
+
+const NODE_MARK: u8 = b'N';
+
+// Write the two bytes of a mark, from byte `at` on.
+fn put_mark(output: &mut [u8], at: usize, kind: u8)
+    requires { ⌜ at + 2 ≤ length (now output) ⌝ }
+    ensures { λ _. ⌜ now (output .exit) ≡ overwrite (now (output .entry)) at (76 ∷ kind ∷ []) ⌝ }
+{
+    output[at] = MARK;
+    output[at + 1] = kind;
+}
+
+// Write the header record. Internal to this library's crates, as the other two are.
+pub fn put_header(output: &mut [u8], at: usize, order: u64, size: u64, blocks: u64, root: u64)
+    requires { ⌜ at + headerBytes ≤ length (now output) ⌝ }
+    ensures { λ _. ⌜ now (output .exit) ≡ overwrite (now (output .entry)) at (headerRecord order size blocks root) ⌝ }
+{
+    put_mark(output, at, HEADER_MARK);
+    image_fields::put(output, at + ORDER_AT, ORDER_BYTES, order);
+    image_fields::put(output, at + SIZE_AT, COUNT_BYTES, size);
+    image_fields::put(output, at + BLOCKS_AT, COUNT_BYTES, blocks);
+    image_fields::put(output, at + ROOT_AT, KEY_BYTES, root);
+}
+
+// Write the record of a block: its leader key, its level and how many keys it holds.
+pub fn put_block(output: &mut [u8], at: usize, leader: u64, level: u64, held: u64)
+    requires { ⌜ at + blockBytes ≤ length (now output) ⌝ }
+    ensures { λ _. ⌜ now (output .exit) ≡ overwrite (now (output .entry)) at (blockRecord leader level held) ⌝ }
+{
+    put_mark(output, at, BLOCK_MARK);
+    image_fields::put(output, at + LEADER_AT, KEY_BYTES, leader);
+    image_fields::put(output, at + LEVEL_AT, COUNT_BYTES, level);
+    image_fields::put(output, at + HELD_AT, COUNT_BYTES, held);
+}
+
+// Write the record of a key: the key, its links, its rank and its count.
+pub fn put_node(
+    output: &mut [u8],
+    at: usize,
+    key: u64,
+    left: u64,
+    right: u64,
+    rank: u64,
+    count: u64,
+)
+    requires { ⌜ at + nodeBytes ≤ length (now output) ⌝ }
+    ensures { λ _. ⌜ now (output .exit) ≡ overwrite (now (output .entry)) at (nodeRecord key left right rank count) ⌝ }
+{
+    put_mark(output, at, NODE_MARK);
+    image_fields::put(output, at + KEY_AT, KEY_BYTES, key);
+    image_fields::put(output, at + LEFT_AT, KEY_BYTES, left);
+    image_fields::put(output, at + RIGHT_AT, KEY_BYTES, right);
+    image_fields::put(output, at + RANK_AT, COUNT_BYTES, rank);
+    image_fields::put(output, at + COUNT_AT, COUNT_BYTES, count);
+}

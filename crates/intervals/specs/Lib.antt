@@ -1,0 +1,2 @@
+-- The definitions that the contracts of `intervals` cite.
+pub mod Intervals

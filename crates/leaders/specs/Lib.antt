@@ -1,2 +1,0 @@
--- The definition that the contract of `leaders::hand_down` cites.
-pub mod Steps

@@ -1,2 +1,0 @@
--- The definition that the contract of `limits::slots_for` cites.
-pub mod Lengths

@@ -1,2 +1,0 @@
--- The definitions that the contracts of `links` cite.
-pub mod Links

@@ -1,2 +1,0 @@
--- The definitions that the contracts of `ranges` cite.
-pub mod Ranges

@@ -1,2 +1,0 @@
--- The definitions that the contracts of `ranks` cite.
-pub mod Steps

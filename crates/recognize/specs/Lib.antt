@@ -1,2 +1,0 @@
--- The definitions that the contracts of `recognize` cite.
-pub mod Recognize

@@ -1,2 +1,0 @@
--- The definitions that the contracts of `seek` cite.
-pub mod Seek

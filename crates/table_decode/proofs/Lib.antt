@@ -1,0 +1,4 @@
+-- The laws of `table_decode`.
+mod Neighbours
+mod Gathered
+pub mod RisingKeys

@@ -1,0 +1,2 @@
+-- The definitions that the contracts of `table_decode` cite.
+pub mod Decode

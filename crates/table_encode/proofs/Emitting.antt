@@ -1,0 +1,73 @@
+-- The words of the slots, slot after slot: the loop's invariant of `emit`, its steps and its end. Assumes nothing.
+use mathlib.Core.Bool.{Bool, true, false, cond}
+use mathlib.Core.List.{List, [], _∷_, _++_, flatMap, append-nil, append-assoc}
+use mathlib.Core.Path.{_≡_, refl, sym, ap, ap₂, _∙_, subst}
+use Prim.Native.Nat.{ℕ, zero, suc, _+_, _*_, _<_, _≤_}
+use native.Mathlib.Omega.{arith}
+use lib.Dec.{eqb}
+use lib.ListN.{length, getD, set, take, drop, length-append, drop-of-length-le, length-set}
+use lib.Seq.{take-suc, take-length, length-take-le}
+use Rattle.lists.specs.Lists.{overwrite}
+use Rattle.lists.proofs.Tests.{by-test}
+use Rattle.lists.proofs.FlatMap.{flatMap-append}
+use Rattle.lists.proofs.Overwrite.{overwrite-none, overwrite-length}
+use Rattle.lists.proofs.Parts.{overwrite-next}
+use Rattle.table.specs.Layout.{headerWords, slotWords, slotStart, tableWords}
+use Rattle.table_encode.specs.Encode.{keyAt, Columns, slotAt, wordsOf}
+
+pub slot-length : (keys : List ℕ) (c : Columns) (i : ℕ) → length (slotAt keys c i) ≡ slotWords
+unfolding slotAt
+slot-length keys c i = by-test (eqb i 0) (λ e. rw e) (λ e. rw e)
+
+pub slots-length : (keys : List ℕ) (c : Columns) (xs : List ℕ) → length (flatMap (slotAt keys c) xs) ≡ slotWords * length xs
+unfolding flatMap
+slots-length keys c [] = refl
+slots-length keys c (x ∷ xs) = length-append (slotAt keys c x) (flatMap (slotAt keys c) xs) ∙ omega (arith, slot-length keys c x, slots-length keys c xs)
+
+-- The table once the first so many slots are written over what it held at the start.
+pub record Emitted (keys : List ℕ) (c : Columns) (slots start table : List ℕ) (s : ℕ) : Type 0 where
+  pub upto : s ≤ length slots
+  pub size : length table ≡ length start
+  pub holds : table ≡ overwrite start headerWords (flatMap (slotAt keys c) (take s slots))
+
+module _ (keys : List ℕ) (c : Columns) (slots : List ℕ) (start : List ℕ) (long : length start ≡ tableWords (length slots)) where
+  pub emitted-start : Emitted keys c slots start start 0
+  unfolding flatMap
+  emitted-start = record { upto = omega arith; size = refl; holds = sym (overwrite-none start headerWords) }
+
+  written : (s : ℕ) → s ≤ length slots → length (flatMap (slotAt keys c) (take s slots)) ≡ slotWords * s
+  written s h = slots-length keys c (take s slots) ∙ ap (λ (n : ℕ). slotWords * n) (length-take-le s slots h)
+
+  pub emitted-next : (table : List ℕ) (s : ℕ) → Emitted keys c slots start table s → s < length slots → Emitted keys c slots start (overwrite table (slotStart s) (slotAt keys c (getD slots s 0))) (suc s)
+  unfolding flatMap
+  emitted-next table s e h =
+      let new = slotAt keys c (getD slots s 0) in
+      let done = flatMap (slotAt keys c) (take s slots) in
+      let size-done = written s (e .upto) in
+      let size-new = slot-length keys c (getD slots s 0) in
+      record {
+        upto = h;
+        size = overwrite-length table (slotStart s) new (let q = e .size in omega arith) ∙ e .size;
+        holds =
+            ap (λ (t : List ℕ). overwrite t (slotStart s) new) (e .holds)
+            ∙ overwrite-next headerWords (slotStart s) done start (omega arith) (omega arith) new (omega arith)
+            ∙ ap (overwrite start headerWords)
+            (ap (λ (xs : List ℕ). done ++ xs) (sym (append-nil new)) ∙ sym (ap (flatMap (slotAt keys c)) (take-suc slots s 0 h) ∙ flatMap-append (slotAt keys c) (take s slots) (getD slots s 0 ∷ [])));
+      }
+
+  pub emitted-end : (table : List ℕ) (s : ℕ) → Emitted keys c slots start table s → length slots ≤ s → table ≡ take headerWords start ++ flatMap (slotAt keys c) slots
+  unfolding overwrite
+  emitted-end table s e h =
+      let whole : s ≡ length slots = let u = e .upto in omega arith in
+      let all-words = flatMap (slotAt keys c) slots in
+      e .holds
+      ∙ ap (overwrite start headerWords) (ap (λ (n : ℕ). flatMap (slotAt keys c) (take n slots)) whole ∙ ap (flatMap (slotAt keys c)) (take-length slots))
+      ∙ ap (λ (xs : List ℕ). take headerWords start ++ (all-words ++ xs)) (drop-of-length-le start {i = headerWords + length all-words} (omega (arith, slots-length keys c slots)))
+      ∙ ap (λ (xs : List ℕ). take headerWords start ++ xs) (append-nil all-words)
+
+-- the header's three stores
+pub header-stores : (words : List ℕ) (a b c : ℕ) → 3 ≤ length words → take 3 (set (set (set words 0 a) 1 b) 2 c) ≡ a ∷ b ∷ c ∷ []
+header-stores [] a b c h = absurd (omega arith)
+header-stores (x ∷ []) a b c h = absurd (omega arith)
+header-stores (x ∷ y ∷ []) a b c h = absurd (omega arith)
+header-stores (x ∷ y ∷ z ∷ words) a b c h = refl

@@ -1,0 +1,122 @@
+-- The words from the columns of a rising list of keys are those of the fresh table. Assumes an order of at least 2, rising
+-- keys, none of them zero, and columns by position as their definitions say.
+use mathlib.Core.List.{List, [], _∷_, _++_, map, flatMap, map-map, Permᴰ·symm}
+use mathlib.Core.Logic.{_≢_}
+use mathlib.Core.Path.{_≡_, sym, ap, ap₂, _∙_, subst}
+use Prim.Native.Nat.{ℕ, zero, suc, _+_, _<_, _≤_}
+use native.Mathlib.Omega.{arith}
+use lib.ListN.{length, getD, take, replicate}
+use borrow.Author.Tests.{ne-eqb}
+use Rattle.lists.specs.Lists.{sortBy, All, Rising}
+use Rattle.lists.proofs.Keep.{all-map}
+use Rattle.lists.proofs.Membership.{all-member, all-of-members}
+use Rattle.lists.proofs.FlatMap.{flatMap-same, flatMap-mapped}
+use Rattle.lists.proofs.Sorting.{all-permuted, sortBy-permutes}
+use Rattle.lists.proofs.UpFrom.{upFrom-member, upFrom-rising, upFrom-within}
+use Rattle.priority.specs.Priority.{priorityOf, homeOf}
+use Rattle.treap.specs.Treap.{top, outranks, leftLink, rightLink}
+use Rattle.treap.specs.Levels.{rank, count, leader}
+use Rattle.treap.specs.Slots.{slotsOf}
+use Rattle.treap_structure.proofs.Relabel.{Renames, renamed-top, renamed-left, renamed-right, renamed-ranks, renamed-counts, renamed-leader}
+use Rattle.table_slots.proofs.RelabelSlots.{renamed-slots}
+use Rattle.treap_columns.specs.Positions.{positions, weightAt}
+use Rattle.treap_columns.specs.Columns.{leftColumn, rightColumn, rankColumn, countColumn, leaderColumn}
+use Rattle.treap_columns.proofs.Filled.{column-at}
+use Rattle.table.specs.Contents.{Contents}
+use Rattle.table.specs.Table.{homeIn, header, slotOf, fresh}
+use Rattle.table_encode.specs.Encode.{keyAt, Columns, slotAt, wordsOf}
+use Rattle.table_encode.proofs.Renaming.{maps-agree, key-at-zero, keys-of-positions, keys-rename, keys-apart, place-home, all-placed, all-replicate}
+
+-- Columns that begin with those of the definitions, over the priorities of the keys.
+pub record Right (order : ℕ) (keys : List ℕ) (c : Columns) : Type 0 where
+  pub lefts : take (length keys) (c .left) ≡ leftColumn (map priorityOf keys) (length keys)
+  pub rights : take (length keys) (c .right) ≡ rightColumn (map priorityOf keys) (length keys)
+  pub leaders : take (length keys) (c .leader) ≡ leaderColumn order (map priorityOf keys) (length keys)
+  pub ranks : take (length keys) (c .rank) ≡ rankColumn order (map priorityOf keys) (length keys)
+  pub counts : take (length keys) (c .count) ≡ countColumn order (map priorityOf keys) (length keys)
+
+module _ (order : ℕ) (wide : 2 ≤ order) (keys : List ℕ) (rising : Rising keys) (some : All (λ k. 1 ≤ k) keys) where
+  abbrev n : ℕ
+  n = length keys
+
+  abbrev q : ℕ → ℕ
+  q = weightAt (map priorityOf keys)
+
+  abbrev is : List ℕ
+  is = positions n
+
+  abbrev f : ℕ → ℕ
+  f = keyAt keys
+
+  -- what is said of the keys, said of the positions
+  of-position : (g h : ℕ → ℕ) → map g (map f is) ≡ map h is → (i : ℕ) → i < n → g (f (suc i)) ≡ h (suc i)
+  of-position g h e i b =
+      all-member (λ j. g (f j) ≡ h j) is (suc i) (maps-agree (λ j. g (f j)) h is (sym (map-map g f is) ∙ e)) (upFrom-member 1 n (suc i) (omega arith) (omega arith))
+
+  over-keys : (g : List ℕ → ℕ → ℕ) (ys : List ℕ) → map (g (map f is)) (map f is) ≡ ys → map (g keys) (map f is) ≡ ys
+  over-keys g ys e = subst (λ (ks : List ℕ). map (g ks) (map f is) ≡ ys) (keys-of-positions keys) e
+
+  rename : Renames f priorityOf q is
+  rename = keys-rename priorityOf keys rising
+
+  rise : Rising is
+  rise = upFrom-rising 1 n
+
+  module _ (c : Columns) (right : Right order keys c) where
+    -- a link or leader of the key is the key of the position's
+    pub linked : (g : (ℕ → ℕ) → List ℕ → ℕ → ℕ) (column : List ℕ) → map (g priorityOf (map f is)) (map f is) ≡ map f (map (g q is) is) → take n column ≡ map (g q is) is
+        → (i : ℕ) → i < n → g priorityOf keys (f (suc i)) ≡ f (getD column i 0)
+    linked g column e t i h =
+        of-position (g priorityOf keys) (λ j. f (g q is j)) (over-keys (g priorityOf) (map f (map (g q is) is)) e ∙ map-map f (g q is) is) i h
+        ∙ ap f (sym (column-at (g q is) n column t i h))
+
+    pub numbered : (g : (ℕ → ℕ) → List ℕ → ℕ → ℕ) (column : List ℕ) → map (g priorityOf (map f is)) (map f is) ≡ map (g q is) is → take n column ≡ map (g q is) is
+        → (i : ℕ) → i < n → g priorityOf keys (f (suc i)) ≡ getD column i 0
+    numbered g column e t i h =
+        of-position (g priorityOf keys) (g q is) (over-keys (g priorityOf) (map (g q is) is) e) i h ∙ sym (column-at (g q is) n column t i h)
+
+    slot-right : (i : ℕ) → i ≤ n → slotOf (record { order = order; keys = keys }) (f i) ≡ slotAt keys c i
+    unfolding slotOf slotAt
+    slot-right zero h = rw (key-at-zero keys)
+    slot-right (suc i) h =
+        let apart = all-member (λ j. (j ≢ 0) × (f j ≢ 0)) is (suc i) (keys-apart keys some) (upFrom-member 1 n (suc i) (omega arith) (omega arith)) in
+        rw (
+          ne-eqb (f (suc i)) 0 (apart .1),
+          ne-eqb (suc i) 0 (apart .0),
+          linked leftLink (c .left) (renamed-left f priorityOf q is rename rise) (right .lefts) i h,
+          linked rightLink (c .right) (renamed-right f priorityOf q is rename rise) (right .rights) i h,
+          linked (leader order) (c .leader) (renamed-leader f priorityOf q is rename rise order wide) (right .leaders) i h,
+          numbered (rank order) (c .rank) (renamed-ranks f priorityOf q is rename rise order wide) (right .ranks) i h,
+          numbered (count order) (c .count) (renamed-counts f priorityOf q is rename rise order wide) (right .counts) i h,
+        )
+
+    -- ---- the slots
+    positions-within : All (λ i. i ≤ n) (sortBy (outranks q) is)
+    positions-within =
+        all-permuted (λ i. i ≤ n) (Permᴰ·symm (sortBy-permutes (outranks q) is)) (all-map (λ i. (1 ≤ i) × (i < 1 + n)) (λ i. i ≤ n) (λ i h. omega arith) is (upFrom-within 1 n))
+
+    pub slots-within : (many : ℕ) → All (λ i. i ≤ n) (slotsOf q (λ i. homeOf (q i) many) many is)
+    unfolding slotsOf
+    slots-within many = all-placed (λ i. i ≤ n) (λ i. homeOf (q i) many) (replicate many 0) (sortBy (outranks q) is) (all-replicate (λ i. i ≤ n) many 0 (omega arith)) positions-within
+
+    homes : (many : ℕ) → slotsOf q (λ i. homeIn many (f i)) many is ≡ slotsOf q (λ i. homeOf (q i) many) many is
+    unfolding slotsOf homeIn
+    homes many =
+        place-home (λ i. homeIn many (f i)) (λ i. homeOf (q i) many) (replicate many 0) (sortBy (outranks q) is)
+        (all-permuted (λ i. homeIn many (f i) ≡ homeOf (q i) many) (Permᴰ·symm (sortBy-permutes (outranks q) is))
+        (all-of-members (λ i. homeIn many (f i) ≡ homeOf (q i) many) is (λ i m. ap (λ (z : ℕ). homeOf z many) (rename .keeps i m))))
+
+    pub words-are-fresh : (many : ℕ) → wordsOf order keys (top q is) c (slotsOf q (λ i. homeOf (q i) many) many is) ≡ fresh many (record { order = order; keys = keys })
+    unfolding wordsOf fresh header
+    words-are-fresh many =
+        let contents : Contents = record { order = order; keys = keys } in
+        let placed = slotsOf q (λ i. homeOf (q i) many) many is in
+        let slots-here : slotsOf priorityOf (homeIn many) many keys ≡ map f placed =
+        ap (slotsOf priorityOf (homeIn many) many) (sym (keys-of-positions keys))
+        ∙ renamed-slots f (homeIn many) (key-at-zero keys) priorityOf q is rename rise (keys-apart keys some) many ∙ ap (map f) (homes many)
+        in
+        let root-here : top priorityOf keys ≡ f (top q is) = ap (top priorityOf) (sym (keys-of-positions keys)) ∙ renamed-top f priorityOf q is rename rise in
+        sym (ap₂ (λ (z : ℕ) (xs : List ℕ). (order ∷ n ∷ z ∷ []) ++ xs) root-here
+        (ap (flatMap (slotOf contents)) slots-here
+        ∙ flatMap-mapped (slotOf contents) f placed
+        ∙ flatMap-same (λ i. slotOf contents (f i)) (slotAt keys c) placed (all-map (λ i. i ≤ n) (λ i. slotOf contents (f i) ≡ slotAt keys c i) (λ i h. slot-right i h) placed (slots-within many))))

@@ -1,0 +1,116 @@
+-- `table_encode::emit` meets its contract. The loop's invariant: the first s slots are written. Assumes nothing.
+use mathlib.Core.List.{List, [], _∷_, _++_, flatMap}
+use mathlib.Core.Path.{_≡_, refl, sym, ap, _∙_, subst₂}
+use native.Mathlib.Numerals.{add-one}
+use Prim.Native.Nat.{ℕ, _≤_, _-_, _+_, _*_}
+use native.Mathlib.Omega.{arith}
+use lib.ListN.{length, set, length-set}
+use Rattle.lists.proofs.Keep.{all-at}
+use Rattle.table.specs.Layout.{tableWords}
+use Rattle.table_encode.specs.Encode.{slotAt, wordsOf}
+use Rattle.table_encode.proofs.Emitting.{Emitted, emitted-start, emitted-next, emitted-end, header-stores}
+use borrow.Author.Needs.{needs}
+use Rattle.table_encode.proofs.emit.Statement.{statement}
+use Rattle.table_encode.proofs.emit.Tie as tie
+use Rattle.table_encode.proofs.emit.Reads as reads
+use Rattle.table_encode.proofs.emit.Lts as lts
+use Rattle.table_encode.proofs.emit_slot.Reads as emit-slot-reads
+use Rattle.table_encode.proofs.key_at.Reads as key-at-reads
+
+abbrev Inv-loop : tie.InvT-loop
+Inv-loop order keys root left right leader rank count slots table₀ s₀ s-end table s =
+    (s-end ≡ length slots) × Emitted keys (record { left = left; right = right; leader = leader; rank = rank; count = count }) slots table₀ table s
+
+abbrev μ-loop : tie.MeasureT-loop
+μ-loop order keys root left right leader rank count slots table₀ s₀ s-end table s = length slots - s
+
+-- where the loop begins the table is as long as it was lent
+start-long : (c : tie.After-key-at Inv-loop μ-loop) → length (set (set (set (c .before .before .before .before .before .before .before .before .before .args .table .now) 0 (c .before .before .before .before .before .before .before .before .before .args .order)) 1 (length (c .before .before .before .before .before .before .before .before .before .args .keys .now))) 2 (c .key-at .result)) ≡ tableWords (length (c .before .before .before .before .before .before .before .before .before .args .slots .now))
+start-long c = simp length-set (c .before .before .before .before .before .before .before .before .before .pre .1 .1)
+
+slice-write-table : tie.Need-slice-write-table Inv-loop μ-loop
+slice-write-table c = search needs
+
+slice-write-table-2 : tie.Need-slice-write-table-2 Inv-loop μ-loop
+slice-write-table-2 c = simp length-set (omega arith)
+
+key-at-requires : tie.Need-key-at-requires Inv-loop μ-loop
+key-at-requires c κs = search needs
+
+slice-write-table-3 : tie.Need-slice-write-table-3 Inv-loop μ-loop
+slice-write-table-3 c = simp length-set (omega arith)
+
+loop-holds : tie.Need-loop-holds Inv-loop μ-loop
+loop-holds c = (refl, emitted-start _ _ _ _ (start-long c))
+
+mul-emit-slot : tie.Need-mul-emit-slot Inv-loop μ-loop
+mul-emit-slot c = search needs
+
+shared-slice-read-emit-slot : tie.Need-shared-slice-read-emit-slot Inv-loop μ-loop
+shared-slice-read-emit-slot c = search needs
+
+mul-emit-slot-2 : tie.Need-mul-emit-slot-2 Inv-loop μ-loop
+mul-emit-slot-2 c = let long = c .before .before .before .before .before .before .before .before .before .before .before .before .before .pre .1 .1 in omega arith
+
+add-emit-slot : tie.Need-add-emit-slot Inv-loop μ-loop
+add-emit-slot c = let long = c .before .before .before .before .before .before .before .before .before .before .before .before .before .pre .1 .1 in omega arith
+
+emit-slot-requires : tie.Need-emit-slot-requires Inv-loop μ-loop
+emit-slot-requires c κs =
+    let start = c .before .before .before .before .before .before .before .before .before .before .before .before .before in
+    let loop = c .before .before .before .loop in
+    let size = loop .inv .1 .size ∙ start-long (c .before .before .before .before) in
+    (start .pre .0, (all-at (λ i. i ≤ length (start .args .keys .now)) (start .args .slots .now) (loop .s) 0 (start .pre .1 .0 .1) (omega arith), omega arith))
+
+add-s : tie.Need-add-s Inv-loop μ-loop
+add-s c = search needs
+
+loop-less : tie.Need-loop-less Inv-loop μ-loop
+loop-less c = search needs
+
+loop-again : tie.Need-loop-again Inv-loop μ-loop
+loop-again c =
+    let args = c .before .before .before .before .before .before .before .before .before .before .before .before .before .before .before .before .args in
+    let loop = c .before .before .before .before .before .before .loop in
+    let begin = c .before .before .before .before .before .before .before in (
+      refl,
+      subst₂ (Emitted (args .keys .now) (record { left = args .left .now; right = args .right .now; leader = args .leader .now; rank = args .rank .now; count = args .count .now }) (args .slots .now) (set (set (set (args .table .now) 0 (args .order)) 1 (length (args .keys .now))) 2 (begin .key-at .result)))
+          (sym (c .before .before .emit-slot .ensures)) (sym (add-one (loop .s)))
+          (emitted-next (args .keys .now) (record { left = args .left .now; right = args .right .now; leader = args .leader .now; rank = args .rank .now; count = args .count .now }) (args .slots .now) (set (set (set (args .table .now) 0 (args .order)) 1 (length (args .keys .now))) 2 (begin .key-at .result)) (start-long begin) (loop .table) (loop .s) (loop .inv .1) (omega arith)),
+    )
+
+same-length : tie.Need-same-length Inv-loop μ-loop
+same-length c = c .before .loop .inv .1 .size ∙ simp length-set
+
+returns : tie.Need-returns Inv-loop μ-loop
+unfolding wordsOf
+returns c =
+    let args = c .before .before .before .before .before .before .before .before .before .before .before .args in
+    let begin = c .before .before in
+    let words = flatMap (slotAt (args .keys .now) (record { left = args .left .now; right = args .right .now; leader = args .leader .now; rank = args .rank .now; count = args .count .now })) (args .slots .now) in
+    let long = c .before .before .before .before .before .before .before .before .before .before .before .pre .1 .1 in
+    emitted-end (args .keys .now) (record { left = args .left .now; right = args .right .now; leader = args .leader .now; rank = args .rank .now; count = args .count .now }) (args .slots .now) (set (set (set (args .table .now) 0 (args .order)) 1 (length (args .keys .now))) 2 (begin .key-at .result)) (start-long begin) (c .before .loop .table) (c .before .loop .s) (c .before .loop .inv .1) (omega arith)
+    ∙ ap (λ (xs : List ℕ). xs ++ words) (header-stores (args .table .now) (args .order) (length (args .keys .now)) (begin .key-at .result) (omega arith))
+    ∙ ap (λ (z : ℕ). (args .order ∷ length (args .keys .now) ∷ z ∷ []) ++ words) (begin .key-at .ensures)
+
+pub emit-spec : {M : Type 1} → statement M
+emit-spec =
+    tie.close
+    (tie.spec
+    Inv-loop
+    μ-loop
+    slice-write-table
+    slice-write-table-2
+    key-at-requires
+    slice-write-table-3
+    loop-holds
+    mul-emit-slot
+    shared-slice-read-emit-slot
+    mul-emit-slot-2
+    add-emit-slot
+    emit-slot-requires
+    add-s
+    loop-less
+    loop-again
+    same-length
+    returns)

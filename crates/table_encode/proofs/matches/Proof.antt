@@ -1,0 +1,138 @@
+-- `table_encode::matches` meets its contract. The loop's invariant: the words before slot s are those of the columns. Assumes nothing.
+use mathlib.Core.Path.{_≡_, refl, sym, ap, _∙_, subst}
+use Prim.Native.Nat.{ℕ, _≤_, _-_}
+use native.Mathlib.Numerals.{add-one}
+use native.Mathlib.Omega.{arith}
+use lib.ListN.{length}
+use borrow.Author.Tests.{not-true, not-false}
+use Rattle.lists.proofs.Keep.{all-at}
+use Rattle.table_encode.specs.Encode.{wordsOf}
+use Rattle.table_encode.proofs.Matching.{Matched, matched-start, matched-next, matched-end, slot-differs, word-differs}
+use borrow.Author.Needs.{needs}
+use Rattle.table_encode.proofs.matches.Statement.{statement}
+use Rattle.table_encode.proofs.matches.Tie as tie
+use Rattle.table_encode.proofs.matches.Reads as reads
+use Rattle.table_encode.proofs.matches.Lts as lts
+use Rattle.table_encode.proofs.key_at.Reads as key-at-reads
+use Rattle.table_encode.proofs.slot_matches.Reads as slot-matches-reads
+
+abbrev Inv-loop : tie.InvT-loop
+Inv-loop order keys root left right leader rank count slots table s₀ s-end s =
+    (s-end ≡ length slots) × Matched order keys root (record { left = left; right = right; leader = leader; rank = rank; count = count }) slots table s
+
+abbrev μ-loop : tie.MeasureT-loop
+μ-loop order keys root left right leader rank count slots table s₀ s-end s = length slots - s
+
+shared-slice-read-if1 : tie.Need-shared-slice-read-if1 Inv-loop μ-loop
+shared-slice-read-if1 c = let long = c .before .before .before .before .before .before .before .before .before .pre .1 .1 in omega arith
+
+returns : tie.Need-returns Inv-loop μ-loop
+unfolding wordsOf
+returns c =
+    let start = c .before .before .before .before .before .before .before .before .before .before in
+    let args = start .args in
+    let long = start .pre .1 .1 in
+    word-differs (args .order) (args .keys .now) (args .root) (record { left = args .left .now; right = args .right .now; leader = args .leader .now; rank = args .rank .now; count = args .count .now }) (args .slots .now) (args .table .now) 0 (c .if1 .taken)
+
+shared-slice-read-if2 : tie.Need-shared-slice-read-if2 Inv-loop μ-loop
+shared-slice-read-if2 c = let long = c .before .before .before .before .before .before .before .before .before .before .before .pre .1 .1 in omega arith
+
+returns-2 : tie.Need-returns-2 Inv-loop μ-loop
+unfolding wordsOf
+returns-2 c =
+    let start = c .before .before .before .before .before .before .before .before .before .before .before .before in
+    let args = start .args in
+    let long = start .pre .1 .1 in
+    word-differs (args .order) (args .keys .now) (args .root) (record { left = args .left .now; right = args .right .now; leader = args .leader .now; rank = args .rank .now; count = args .count .now }) (args .slots .now) (args .table .now) 1 (c .if2 .taken)
+
+shared-slice-read-if3 : tie.Need-shared-slice-read-if3 Inv-loop μ-loop
+shared-slice-read-if3 c = let long = c .before .before .before .before .before .before .before .before .before .before .before .before .before .pre .1 .1 in omega arith
+
+key-at-requires : tie.Need-key-at-requires Inv-loop μ-loop
+key-at-requires c κs = c .before .before .before .before .before .before .before .before .before .before .before .before .before .pre .1 .0 .0
+
+returns-3 : tie.Need-returns-3 Inv-loop μ-loop
+unfolding wordsOf
+returns-3 c =
+    let start = c .before .before .before .before .before .before .before .before .before .before .before .before .before .before .before in
+    let args = start .args in
+    let long = start .pre .1 .1 in
+    word-differs (args .order) (args .keys .now) (args .root) (record { left = args .left .now; right = args .right .now; leader = args .leader .now; rank = args .rank .now; count = args .count .now }) (args .slots .now) (args .table .now) 2 (λ q. c .if3 .taken (q ∙ sym (c .before .key-at .ensures)))
+
+loop-holds : tie.Need-loop-holds Inv-loop μ-loop
+loop-holds c =
+    let start = c .before .before .before .before .before .before .before .before .before .before .before .before .before .before .before in
+    let args = start .args in
+    let long = start .pre .1 .1 in
+    (refl, matched-start (args .order) (args .keys .now) (args .root) (record { left = args .left .now; right = args .right .now; leader = args .leader .now; rank = args .rank .now; count = args .count .now }) (args .slots .now) (args .table .now) long (c .before .before .before .before .before .if1 .left) (c .before .before .before .if2 .left) (c .if3 .left ∙ c .before .key-at .ensures))
+
+mul-slot-matches : tie.Need-mul-slot-matches Inv-loop μ-loop
+mul-slot-matches c = search needs
+
+shared-slice-read-slot-matches : tie.Need-shared-slice-read-slot-matches Inv-loop μ-loop
+shared-slice-read-slot-matches c = search needs
+
+mul-slot-matches-2 : tie.Need-mul-slot-matches-2 Inv-loop μ-loop
+mul-slot-matches-2 c = let long = c .before .before .before .before .before .before .before .before .before .before .before .before .before .before .before .before .before .before .pre .1 .1 in omega arith
+
+add-slot-matches : tie.Need-add-slot-matches Inv-loop μ-loop
+add-slot-matches c = let long = c .before .before .before .before .before .before .before .before .before .before .before .before .before .before .before .before .before .before .pre .1 .1 in omega arith
+
+slot-matches-requires : tie.Need-slot-matches-requires Inv-loop μ-loop
+slot-matches-requires c κs =
+    let start = c .before .before .before .before .before .before .before .before .before .before .before .before .before .before .before .before .before .before in
+    let args = start .args in
+    let long = start .pre .1 .1 in
+    (start .pre .0, (all-at (λ i. i ≤ length (args .keys .now)) (args .slots .now) (c .before .before .loop .s) 0 (start .pre .1 .0 .1) (omega arith), omega arith))
+
+returns-4 : tie.Need-returns-4 Inv-loop μ-loop
+returns-4 c =
+    let start = c .before .before .before .before .before .before .before .before .before .before .before .before .before .before .before .before .before .before .before .before in
+    let args = start .args in
+    let long = start .pre .1 .1 in
+    slot-differs (args .order) (args .keys .now) (args .root) (record { left = args .left .now; right = args .right .now; leader = args .leader .now; rank = args .rank .now; count = args .count .now }) (args .slots .now) (args .table .now) (c .before .before .before .before .loop .s) (omega arith) (sym (c .before .slot-matches .ensures) ∙ not-true (c .before .slot-matches .result) (c .if4 .taken))
+
+add-s : tie.Need-add-s Inv-loop μ-loop
+add-s c = search needs
+
+loop-less : tie.Need-loop-less Inv-loop μ-loop
+loop-less c = search needs
+
+loop-again : tie.Need-loop-again Inv-loop μ-loop
+loop-again c =
+    let start = c .before .before .before .before .before .before .before .before .before .before .before .before .before .before .before .before .before .before .before .before in
+    let args = start .args in
+    let long = start .pre .1 .1 in
+    (refl, subst (Matched (args .order) (args .keys .now) (args .root) (record { left = args .left .now; right = args .right .now; leader = args .leader .now; rank = args .rank .now; count = args .count .now }) (args .slots .now) (args .table .now)) (sym (add-one (c .before .before .before .before .loop .s))) (matched-next (args .order) (args .keys .now) (args .root) (record { left = args .left .now; right = args .right .now; leader = args .leader .now; rank = args .rank .now; count = args .count .now }) (args .slots .now) (args .table .now) (c .before .before .before .before .loop .s) (c .before .before .before .before .loop .inv .1) (omega arith) long (sym (c .before .slot-matches .ensures) ∙ not-false (c .before .slot-matches .result) (c .if4 .left))))
+
+returns-5 : tie.Need-returns-5 Inv-loop μ-loop
+returns-5 c =
+    let start = c .before .before .before .before .before .before .before .before .before .before .before .before .before .before .before .before .before in
+    let args = start .args in
+    let long = start .pre .1 .1 in
+    matched-end (args .order) (args .keys .now) (args .root) (record { left = args .left .now; right = args .right .now; leader = args .leader .now; rank = args .rank .now; count = args .count .now }) (args .slots .now) (args .table .now) (c .before .loop .s) (c .before .loop .inv .1) (omega arith) long
+
+pub matches-spec : {M : Type 1} → statement M
+matches-spec =
+    tie.close
+    (tie.spec
+    Inv-loop
+    μ-loop
+    shared-slice-read-if1
+    returns
+    shared-slice-read-if2
+    returns-2
+    shared-slice-read-if3
+    key-at-requires
+    returns-3
+    loop-holds
+    mul-slot-matches
+    shared-slice-read-slot-matches
+    mul-slot-matches-2
+    add-slot-matches
+    slot-matches-requires
+    returns-4
+    add-s
+    loop-less
+    loop-again
+    returns-5)

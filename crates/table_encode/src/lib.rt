@@ -1,0 +1,220 @@
+// Writing the words of a table from the columns of its keys, and comparing a table with them.
+ghost use mathlib.Core.Path.{_≡_};
+ghost use mathlib.Core.List.{_∷_, [], _++_};
+ghost use Prim.Native.Nat.{_+_, _<_, _≤_};
+ghost use lib.ListN.{length, take, drop};
+ghost use Rattle.lists.specs.Lists.{overwrite, same, All};
+ghost use Rattle.table.specs.Layout.{tableWords, slotWords};
+ghost use Rattle.table_encode.specs.Encode.{keyAt, slotAt, wordsOf, Linked};
+use table::COUNT_FIELD;
+use table::HEADER_WORDS;
+use table::KEY_FIELD;
+use table::LEADER_FIELD;
+use table::LEFT_FIELD;
+use table::ORDER_WORD;
+use table::RANK_FIELD;
+use table::RIGHT_FIELD;
+use table::ROOT_WORD;
+use table::SIZE_WORD;
+use table::SLOT_WORDS;
+
+// The key at a position; 0 at position 0. Internal to this library's crates.
+pub fn key_at(keys: &[u64], position: u64) -> u64
+    requires { ⌜ position ≤ length (now keys) ⌝ }
+    ensures { λ r. ⌜ r ≡ keyAt (now (keys .entry)) position ⌝ }
+{
+    if position == 0 {
+        return 0;
+    }
+    keys[(position - 1) as usize]
+}
+
+// Write the six words of a slot, from word `at` on.
+fn write_slot(
+    table: &mut [u64],
+    at: usize,
+    key: u64,
+    left: u64,
+    right: u64,
+    leader: u64,
+    rank: u64,
+    count: u64,
+)
+    requires { ⌜ at + slotWords ≤ length (now table) ⌝ }
+    ensures { λ _. ⌜ now (table .exit) ≡ overwrite (now (table .entry)) at (key ∷ left ∷ right ∷ leader ∷ rank ∷ count ∷ []) ⌝ }
+{
+    table[at + KEY_FIELD] = key;
+    table[at + LEFT_FIELD] = left;
+    table[at + RIGHT_FIELD] = right;
+    table[at + LEADER_FIELD] = leader;
+    table[at + RANK_FIELD] = rank;
+    table[at + COUNT_FIELD] = count;
+}
+
+// Write the slot that a position is in, from word `at` on.
+fn emit_slot(
+    keys: &[u64],
+    left: &[u64],
+    right: &[u64],
+    leader: &[u64],
+    rank: &[u64],
+    count: &[u64],
+    position: u64,
+    table: &mut [u64],
+    at: usize,
+)
+    requires { ⌜ Linked (now keys) (record { left = now left; right = now right; leader = now leader; rank = now rank; count = now count }) ⌝ }
+    requires { ⌜ (position ≤ length (now keys)) × (at + slotWords ≤ length (now table)) ⌝ }
+    ensures { λ _. ⌜ now (table .exit) ≡ overwrite (now (table .entry)) at (slotAt (now (keys .entry)) (record { left = now (left .entry); right = now (right .entry); leader = now (leader .entry); rank = now (rank .entry); count = now (count .entry) }) position) ⌝ }
+{
+    if position == 0 {
+        write_slot(table, at, 0, 0, 0, 0, 0, 0);
+        return;
+    }
+    let i = (position - 1) as usize;
+    let key = keys[i];
+    let l = key_at(keys, left[i]);
+    let r = key_at(keys, right[i]);
+    let d = key_at(keys, leader[i]);
+    write_slot(table, at, key, l, r, d, rank[i], count[i]);
+}
+
+// Write the words of the table: the header, then each slot. Internal to this library's crates.
+pub fn emit(
+    order: u64,
+    keys: &[u64],
+    root: u64,
+    left: &[u64],
+    right: &[u64],
+    leader: &[u64],
+    rank: &[u64],
+    count: &[u64],
+    slots: &[u64],
+    table: &mut [u64],
+)
+    requires { ⌜ Linked (now keys) (record { left = now left; right = now right; leader = now leader; rank = now rank; count = now count }) ⌝ }
+    requires { ⌜ (root ≤ length (now keys)) × All (λ i. i ≤ length (now keys)) (now slots) ⌝ }
+    requires { ⌜ length (now table) ≡ tableWords (length (now slots)) ⌝ }
+    ensures { λ _. ⌜ now (table .exit) ≡ wordsOf order (now (keys .entry)) root (record { left = now (left .entry); right = now (right .entry); leader = now (leader .entry); rank = now (rank .entry); count = now (count .entry) }) (now (slots .entry)) ⌝ }
+{
+    table[ORDER_WORD] = order;
+    table[SIZE_WORD] = keys.len() as u64;
+    table[ROOT_WORD] = key_at(keys, root);
+    for s in 0..slots.len() {
+        emit_slot(
+            keys,
+            left,
+            right,
+            leader,
+            rank,
+            count,
+            slots[s],
+            table,
+            HEADER_WORDS + SLOT_WORDS * s,
+        );
+    }
+}
+
+// Whether the six words from word `at` on are these.
+fn slot_is(
+    table: &[u64],
+    at: usize,
+    key: u64,
+    left: u64,
+    right: u64,
+    leader: u64,
+    rank: u64,
+    count: u64,
+) -> bool
+    requires { ⌜ at + slotWords ≤ length (now table) ⌝ }
+    ensures { λ r. ⌜ r ≡ same (take slotWords (drop at (now (table .entry)))) (key ∷ left ∷ right ∷ leader ∷ rank ∷ count ∷ []) ⌝ }
+{
+    if table[at + KEY_FIELD] != key {
+        return false;
+    }
+    if table[at + LEFT_FIELD] != left {
+        return false;
+    }
+    if table[at + RIGHT_FIELD] != right {
+        return false;
+    }
+    if table[at + LEADER_FIELD] != leader {
+        return false;
+    }
+    if table[at + RANK_FIELD] != rank {
+        return false;
+    }
+    table[at + COUNT_FIELD] == count
+}
+
+// Whether the slot from word `at` on is the one that a position is in.
+fn slot_matches(
+    keys: &[u64],
+    left: &[u64],
+    right: &[u64],
+    leader: &[u64],
+    rank: &[u64],
+    count: &[u64],
+    position: u64,
+    table: &[u64],
+    at: usize,
+) -> bool
+    requires { ⌜ Linked (now keys) (record { left = now left; right = now right; leader = now leader; rank = now rank; count = now count }) ⌝ }
+    requires { ⌜ (position ≤ length (now keys)) × (at + slotWords ≤ length (now table)) ⌝ }
+    ensures { λ r. ⌜ r ≡ same (take slotWords (drop at (now (table .entry)))) (slotAt (now (keys .entry)) (record { left = now (left .entry); right = now (right .entry); leader = now (leader .entry); rank = now (rank .entry); count = now (count .entry) }) position) ⌝ }
+{
+    if position == 0 {
+        return slot_is(table, at, 0, 0, 0, 0, 0, 0);
+    }
+    let i = (position - 1) as usize;
+    let key = keys[i];
+    let l = key_at(keys, left[i]);
+    let r = key_at(keys, right[i]);
+    let d = key_at(keys, leader[i]);
+    slot_is(table, at, key, l, r, d, rank[i], count[i])
+}
+
+// Whether the table has exactly the words that `emit` would write. Internal to this library's crates.
+pub fn matches(
+    order: u64,
+    keys: &[u64],
+    root: u64,
+    left: &[u64],
+    right: &[u64],
+    leader: &[u64],
+    rank: &[u64],
+    count: &[u64],
+    slots: &[u64],
+    table: &[u64],
+) -> bool
+    requires { ⌜ Linked (now keys) (record { left = now left; right = now right; leader = now leader; rank = now rank; count = now count }) ⌝ }
+    requires { ⌜ (root ≤ length (now keys)) × All (λ i. i ≤ length (now keys)) (now slots) ⌝ }
+    requires { ⌜ length (now table) ≡ tableWords (length (now slots)) ⌝ }
+    ensures { λ r. ⌜ r ≡ same (now (table .entry)) (wordsOf order (now (keys .entry)) root (record { left = now (left .entry); right = now (right .entry); leader = now (leader .entry); rank = now (rank .entry); count = now (count .entry) }) (now (slots .entry))) ⌝ }
+{
+    if table[ORDER_WORD] != order {
+        return false;
+    }
+    if table[SIZE_WORD] != keys.len() as u64 {
+        return false;
+    }
+    if table[ROOT_WORD] != key_at(keys, root) {
+        return false;
+    }
+    for s in 0..slots.len() {
+        if !slot_matches(
+            keys,
+            left,
+            right,
+            leader,
+            rank,
+            count,
+            slots[s],
+            table,
+            HEADER_WORDS + SLOT_WORDS * s,
+        ) {
+            return false;
+        }
+    }
+    true
+}

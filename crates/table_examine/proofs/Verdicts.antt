@@ -1,0 +1,92 @@
+-- What the tests of examining say of the verdict. Assumes nothing.
+use mathlib.Core.Bool.{Bool, true, false, cond}
+use mathlib.Core.List.{List}
+use mathlib.Core.Path.{_≡_, refl, sym, ap, ap₂, _∙_}
+use Prim.Native.Nat.{ℕ, _≤_}
+use native.Mathlib.Omega.{arith}
+use lib.ListN.{length, getD, take}
+use Rattle.lists.specs.Lists.{lies, risesB, same, overwrite}
+use Rattle.lists.proofs.Rising.{rises-says}
+use Rattle.lists.proofs.Start.{starts-with}
+use Rattle.table.specs.Layout.{mostSlots, leastOrder, greatestOrder, orderWord}
+use Rattle.table.specs.Contents.{Contents, tableOrder}
+use Rattle.table.specs.Table.{fresh, contentsOf}
+use Rattle.table.specs.Sound.{soundWith}
+use Rattle.table.proofs.Soundness.{shown-fit, shown-nonzero}
+use Rattle.table_prepare.specs.Prepared.{Keys}
+use Rattle.table_prepare.proofs.Writable.{writable}
+use Rattle.table_examine.specs.declared.Verdict.{Verdict}
+use Rattle.table_examine.specs.declared.Verdict.the-variants.{Sound, Unsound}
+use Rattle.table_examine.specs.Examine.{verdictOf}
+
+abbrev says : Verdict → Bool
+says (Sound n) = true
+says Unsound = false
+
+abbrev sizeIn : Verdict → ℕ
+sizeIn (Sound n) = n
+sizeIn Unsound = 0
+
+says-cond : (b : Bool) (n : ℕ) → says (cond b (Sound n) Unsound) ≡ b
+says-cond true n = refl
+says-cond false n = refl
+
+module _ (many : ℕ) (words : List ℕ) where
+  -- an order that no table has
+  pub order-wrong : lies leastOrder greatestOrder (getD words orderWord 0) ≡ false → soundWith many words ≡ false
+  unfolding soundWith contentsOf tableOrder
+  order-wrong e = rw e
+
+  -- the other tests, once the order is one
+  pub keys-do-not-rise : lies leastOrder greatestOrder (getD words orderWord 0) ≡ true → risesB (contentsOf many words .keys) ≡ false
+      → soundWith many words ≡ false
+  unfolding soundWith contentsOf tableOrder
+  keys-do-not-rise right e = rw (right, e)
+
+  pub decided : lies leastOrder greatestOrder (getD words orderWord 0) ≡ true → risesB (contentsOf many words .keys) ≡ true
+      → soundWith many words ≡ same words (fresh many (contentsOf many words))
+  unfolding soundWith contentsOf tableOrder
+  decided right e = rw (right, e)
+
+  pub unsound : soundWith many words ≡ false → Unsound ≡ verdictOf many words
+  unfolding verdictOf
+  unsound e = rw e
+
+  pub sound : (n : ℕ) → soundWith many words ≡ true → n ≡ length (contentsOf many words .keys) → Sound n ≡ verdictOf many words
+  unfolding verdictOf
+  sound n e h = rw (e, h)
+
+  -- the verdict, from what comparing the words tells
+  pub verdict-is : (b : Bool) (n : ℕ) → soundWith many words ≡ b → n ≡ length (contentsOf many words .keys) → cond b (Sound n) Unsound ≡ verdictOf many words
+  unfolding verdictOf
+  verdict-is b n e h = rw (e, h)
+
+  verdict-says : soundWith many words ≡ says (verdictOf many words)
+  unfolding verdictOf
+  verdict-says = sym (says-cond (soundWith many words) (length (contentsOf many words .keys)))
+
+  -- what a verdict says
+  pub told-true : (n : ℕ) → verdictOf many words ≡ Sound n → soundWith many words ≡ true
+  told-true n v = verdict-says ∙ ap says v
+
+  pub told-false : verdictOf many words ≡ Unsound → soundWith many words ≡ false
+  told-false v = verdict-says ∙ ap says v
+
+  pub told-size : (n : ℕ) → verdictOf many words ≡ Sound n → n ≡ length (contentsOf many words .keys)
+  told-size n v = sym (ap sizeIn (sound (length (contentsOf many words .keys)) (told-true n v) refl ∙ v))
+
+  -- ---- the keys that are read, as the comparison takes them
+  pub keys-read : (lent keys : List ℕ) (n : ℕ) → keys ≡ overwrite lent 0 (contentsOf many words .keys) → n ≡ length (contentsOf many words .keys) → take n keys ≡ contentsOf many words .keys
+  keys-read lent keys n e h = starts-with keys lent (contentsOf many words .keys) n e (sym h)
+
+  pub can-be-compared : many ≤ mostSlots → lies leastOrder greatestOrder (getD words orderWord 0) ≡ true
+      → risesB (contentsOf many words .keys) ≡ true → Keys (getD words orderWord 0) (contentsOf many words .keys)
+  can-be-compared few right e =
+      writable (getD words orderWord 0) (contentsOf many words .keys) right (rises-says (contentsOf many words .keys) e) (shown-nonzero many words)
+      (omega (arith, shown-fit many words))
+
+  pub compared : (order : ℕ) (keys : List ℕ) (slots : ℕ) → order ≡ getD words orderWord 0 → keys ≡ contentsOf many words .keys → slots ≡ many
+      → same words (fresh slots (record { order = order; keys = keys })) ≡ same words (fresh many (contentsOf many words))
+  unfolding contentsOf
+  compared order keys slots e f g =
+      ap₂ (λ (m : ℕ) (c : Contents). same words (fresh m c)) g (λ i. record { order = e i; keys = f i })

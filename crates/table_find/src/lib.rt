@@ -1,0 +1,39 @@
+// Finding the slot of a key. Assumes nothing of the words.
+ghost use mathlib.Core.Path.{_≡_};
+ghost use Prim.Native.Nat.{_<_, _≤_};
+ghost use lib.ListN.{length};
+ghost use Rattle.table.specs.Layout.{tableWords};
+ghost use Rattle.table_find.specs.Find.{slotFound, foundAt};
+use table::HEADER_WORDS;
+use table::KEY_FIELD;
+use table::SLOT_WORDS;
+
+// Where the search stops.
+pub enum Found {
+    // At this slot, which is empty or holds the key.
+    At(usize),
+    // At none: every slot holds another key.
+    Nowhere,
+}
+
+// The first slot from the home of `priority` on, slot 0 following the last, that is empty or holds `key`.
+// Internal to this library's crates: their tables have at least one slot, and the words of `many` slots.
+pub fn find(table: &[u64], many: usize, key: u64, priority: u64) -> Found
+    requires { ⌜ (0 < many) × (tableWords many ≤ length (now table)) ⌝ }
+    ensures { λ r. ⌜ r ≡ foundAt many (slotFound many (now (table .entry)) key priority) ⌝ }
+{
+    let mut at = priority::home(priority, many as u64) as usize;
+    let mut left = many;
+    while 0 < left {
+        let held = table[HEADER_WORDS + SLOT_WORDS * at + KEY_FIELD];
+        if held == 0 || held == key {
+            return Found::At(at);
+        }
+        at += 1;
+        if at == many {
+            at = 0;
+        }
+        left -= 1;
+    }
+    Found::Nowhere
+}

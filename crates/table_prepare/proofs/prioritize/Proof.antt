@@ -1,0 +1,53 @@
+-- `table_prepare::prioritize` meets its contract. Assumes nothing.
+use mathlib.Core.List.{map}
+use mathlib.Core.Path.{_≡_, ap, _∙_}
+use lib.ListN.{length, take, length-map}
+use Rattle.priority.specs.Priority.{priorityOf}
+use Rattle.sorting.specs.ByWeight.{byWeight}
+use Rattle.sorting.proofs.ByWeight.{byWeight-length}
+use Rattle.lists.proofs.Start.{starts-and}
+use borrow.Author.Needs.{needs}
+use Rattle.table_prepare.proofs.prioritize.Statement.{statement}
+use Rattle.table_prepare.proofs.prioritize.Tie as tie
+use Rattle.table_prepare.proofs.prioritize.Reads as reads
+use Rattle.table_prepare.proofs.prioritize.Lts as lts
+use Rattle.priority.proofs.priorities.Reads as priorities-reads
+use Rattle.sorting.proofs.by_weight.Reads as by-weight-reads
+
+priorities-requires : tie.Need-priorities-requires
+priorities-requires c κs = search needs
+
+by-weight-requires : tie.Need-by-weight-requires
+by-weight-requires c κs = search needs
+
+same-length : tie.Need-same-length
+same-length c = search needs
+
+same-length-2 : tie.Need-same-length-2
+same-length-2 c = search needs
+
+same-length-3 : tie.Need-same-length-3
+same-length-3 c = search needs
+
+returns : tie.Need-returns
+returns c =
+    let args = c .before .before .before .before .before .before .before .before .before .before .before .before .before .before .before .before .args in
+    let keys = args .keys .now in
+    let n = length keys in
+    let ws = c .before .before .before .before .before .before .before .before .before .before .priorities .last .1 .0 in
+    let weights : take n ws ≡ map priorityOf keys = starts-and ws (args .weights .now) (map priorityOf keys) n (c .before .before .before .before .before .before .before .before .before .before .priorities .ensures) (length-map keys priorityOf) in (
+      weights,
+      starts-and (c .before .before .before .before .by-weight .last .1 .1 .0) (args .ranking .now) (byWeight (take n ws)) n (c .before .before .before .before .by-weight .ensures) (byWeight-length (take n ws) ∙ ap length weights ∙ length-map keys priorityOf)
+          ∙ ap byWeight weights,
+    )
+
+pub prioritize-spec : {M : Type 1} → statement M
+prioritize-spec =
+    tie.close
+    (tie.spec
+    priorities-requires
+    by-weight-requires
+    same-length
+    same-length-2
+    same-length-3
+    returns)

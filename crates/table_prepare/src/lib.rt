@@ -1,0 +1,83 @@
+// What a table is written from, out of its order and keys: priorities, columns and slots.
+ghost use mathlib.Core.Path.{_≡_};
+ghost use mathlib.Core.List.{map};
+ghost use Prim.Native.Nat.{_<_, _≤_};
+ghost use lib.ListN.{length, take};
+ghost use Rattle.priority.specs.Priority.{priorityOf};
+ghost use Rattle.sorting.specs.ByWeight.{byWeight};
+ghost use Rattle.treap.specs.Treap.{top};
+ghost use Rattle.table.specs.Layout.{mostSlots, greatestOrder};
+ghost use Rattle.treap_columns.specs.Positions.{positions, weightAt, InOrder};
+ghost use Rattle.table_prepare.specs.Prepared.{Filled, Keys, Prepared};
+
+// Write at the start of `weights` the priorities of the keys, and at the start of `ranking` their positions, less one, by
+// falling priority. What `spare` then holds is left open. Internal to this library's crates.
+pub fn prioritize(keys: &[u64], weights: &mut [u64], ranking: &mut [u64], spare: &mut [u64])
+    requires { ⌜ (length (now keys) ≤ length (now weights)) × (length (now keys) ≤ length (now ranking)) × (length (now keys) ≤ length (now spare)) ⌝ }
+    ensures { λ _. ⌜ take (length (now (keys .entry))) (now (weights .exit)) ≡ map priorityOf (now (keys .entry)) ⌝ }
+    ensures { λ _. ⌜ take (length (now (keys .entry))) (now (ranking .exit)) ≡ byWeight (map priorityOf (now (keys .entry))) ⌝ }
+{
+    priority::priorities(keys, weights);
+    sorting::by_weight(weights, keys.len(), ranking, spare);
+}
+
+// Fill the columns of the positions of `weights`; the position of the root. Internal to this library's crates.
+pub fn fill(
+    weights: &[u64],
+    order: u64,
+    ranking: &[u64],
+    left: &mut [u64],
+    right: &mut [u64],
+    rank: &mut [u64],
+    count: &mut [u64],
+    leader: &mut [u64],
+) -> usize
+    requires { ⌜ (2 ≤ order) × (order ≤ greatestOrder) × (length (now weights) ≤ mostSlots) ⌝ }
+    requires { ⌜ (length (now weights) ≤ length (now ranking)) × InOrder (now weights) (take (length (now weights)) (now ranking)) ⌝ }
+    requires { ⌜ (length (now weights) ≤ length (now left)) × (length (now weights) ≤ length (now right)) ⌝ }
+    requires { ⌜ (length (now weights) ≤ length (now rank)) × (length (now weights) ≤ length (now count)) × (length (now weights) ≤ length (now leader)) ⌝ }
+    ensures { λ r. ⌜ r ≡ top (weightAt (now (weights .entry))) (positions (length (now (weights .entry)))) ⌝ }
+    ensures { λ _. ⌜ Filled order (now (weights .entry)) (now (left .exit)) (now (right .exit)) (now (rank .exit)) (now (count .exit)) (now (leader .exit)) ⌝ }
+{
+    let n = weights.len();
+    let root = treap_links::links(weights, left, right);
+    treap_ranks::ranks(weights, order, n, ranking, left, right, rank, count);
+    treap_leaders::leaders(weights, order, n, ranking, left, right, rank, leader);
+    root
+}
+
+// Make of the keys all that a table is written from; the position of the root. Internal to this library's crates.
+pub fn prepare(
+    order: u64,
+    keys: &[u64],
+    weights: &mut [u64],
+    ranking: &mut [u64],
+    left: &mut [u64],
+    right: &mut [u64],
+    rank: &mut [u64],
+    count: &mut [u64],
+    leader: &mut [u64],
+    slots: &mut [u64],
+) -> usize
+    requires { ⌜ Keys order (now keys) ⌝ }
+    requires { ⌜ (length (now keys) ≤ length (now weights)) × (length (now keys) ≤ length (now ranking)) ⌝ }
+    requires { ⌜ (length (now keys) ≤ length (now left)) × (length (now keys) ≤ length (now right)) ⌝ }
+    requires { ⌜ (length (now keys) ≤ length (now rank)) × (length (now keys) ≤ length (now count)) × (length (now keys) ≤ length (now leader)) ⌝ }
+    requires { ⌜ (0 < length (now slots)) × (length (now keys) ≤ length (now slots)) ⌝ }
+    ensures { λ r. ⌜ Prepared order (now (keys .entry)) (now (left .exit)) (now (right .exit)) (now (rank .exit)) (now (count .exit)) (now (leader .exit)) (now (slots .exit)) r ⌝ }
+{
+    let n = keys.len();
+    prioritize(keys, weights, ranking, left);
+    let root = fill(
+        &weights[..n],
+        order,
+        ranking,
+        left,
+        right,
+        rank,
+        count,
+        leader,
+    );
+    table_slots::place(&weights[..n], &ranking[..n], slots);
+    root
+}

@@ -1,0 +1,5 @@
+-- Lemmas of the slots over plain lists.
+pub mod Probing
+pub mod Placing
+pub mod Placed
+pub mod RelabelSlots

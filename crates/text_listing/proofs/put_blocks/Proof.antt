@@ -1,0 +1,123 @@
+-- `text_listing::put_blocks` meets its contract. The loop's invariant: the lines of the blocks from its index on are still to come.
+-- Assumes nothing.
+use mathlib.Core.List.{List, _++_}
+use mathlib.Core.Path.{_≡_, sym, ap, ap₂, _∙_, subst}
+use Prim.Native.Nat.{ℕ, _-_, _≤_}
+use native.Mathlib.Omega.{arith}
+use lib.ListN.{length, take, drop}
+use borrow.Author.Needs.{needs}
+use Rattle.text.proofs.Ongoing.{Ongoing, ongoing-none, ongoing-all, ongoing-size, ongoing-fits, ongoing-next}
+use Rattle.text_listing.specs.Shown.{partBytes, shownBlock, shownBlocks}
+use Rattle.text_listing.proofs.Walking.{Coming, coming-all, endFrom, partFrom, blocksFrom, coming-end, coming-next, blocks-next, part-size}
+use Rattle.text_listing.proofs.put_blocks.Statement.{statement}
+use Rattle.text_listing.proofs.put_blocks.Tie as tie
+use Rattle.text_listing.proofs.put_blocks.Reads as reads
+use Rattle.text_listing.proofs.put_blocks.Lts as lts
+use Rattle.text_listing.proofs.block_end.Reads as block-end-reads
+use Rattle.text_listing.proofs.put_block.Reads as put-block-reads
+
+abbrev Inv-loop : tie.InvT-loop
+Inv-loop records many output₀ at left₀ start₀ to₀ output left start to = Coming records left start × Ongoing output₀ at (shownBlocks many records) (blocksFrom records start left) output to
+
+abbrev μ-loop : tie.MeasureT-loop
+μ-loop records many output₀ at left₀ start₀ to₀ output left start to = left
+
+-- where the block's records end
+ends : (c : tie.After-block-end Inv-loop μ-loop) → c .block-end .result ≡ endFrom (c .before .before .before .before .before .args .records .now) (c .before .before .loop .start)
+ends c = c .block-end .ensures
+
+inside : (c : tie.After-block-end Inv-loop μ-loop) → c .block-end .result ≤ length (c .before .before .before .before .before .args .records .now)
+inside c = omega (arith, ends c, coming-end (c .before .before .loop .inv .0) (c .before .loop-test .taken))
+
+-- its bytes, as they are handed on
+part : tie.After-block-end Inv-loop μ-loop → List ℕ
+part c = take (c .block-end .result - c .before .before .loop .start) (drop (c .before .before .loop .start) (c .before .before .before .before .before .args .records .now))
+
+part-is : (c : tie.After-block-end Inv-loop μ-loop) → part c ≡ partFrom (c .before .before .before .before .before .args .records .now) (c .before .before .loop .start)
+unfolding part
+part-is c = ap (λ (end : ℕ). take (end - c .before .before .loop .start) (drop (c .before .before .loop .start) (c .before .before .before .before .before .args .records .now))) (ends c)
+
+-- its lines, then those of the blocks after it, are still to come
+turn : (c : tie.After-block-end Inv-loop μ-loop)
+    → Ongoing (c .before .before .before .before .before .args .output .now) (c .before .before .before .before .before .args .at) (shownBlocks (c .before .before .before .before .before .args .many) (c .before .before .before .before .before .args .records .now))
+    (shownBlock (part c) ++ blocksFrom (c .before .before .before .before .before .args .records .now) (c .block-end .result) (c .before .before .loop .left - 1))
+    (c .before .before .loop .output) (c .before .before .loop .to)
+turn c =
+    let args = c .before .before .before .before .before .args in
+    let loop = c .before .before .loop in
+    subst (λ (rest : List ℕ). Ongoing (args .output .now) (args .at) (shownBlocks (args .many) (args .records .now)) rest (loop .output) (loop .to))
+    (blocks-next (loop .inv .0) (c .before .loop-test .taken)
+    ∙ ap₂ (λ (records : List ℕ) (end : ℕ). shownBlock records ++ blocksFrom (args .records .now) end (loop .left - 1)) (sym (part-is c)) (sym (ends c)))
+    (loop .inv .1)
+
+loop-holds : tie.Need-loop-holds Inv-loop μ-loop
+loop-holds c = (coming-all _ _ (c .before .before .pre .0), ongoing-none _ _ _)
+
+block-end-requires : tie.Need-block-end-requires Inv-loop μ-loop
+block-end-requires c κs = coming-end (c .before .loop .inv .0) (c .loop-test .taken)
+
+sub-put-block : tie.Need-sub-put-block Inv-loop μ-loop
+sub-put-block c = omega (arith, ends c)
+
+part-put-block-start : tie.Need-part-put-block-start Inv-loop μ-loop
+part-put-block-start c = omega (arith, ends c)
+
+part-put-block-end : tie.Need-part-put-block-end Inv-loop μ-loop
+part-put-block-end c = inside c
+
+put-block-requires : tie.Need-put-block-requires Inv-loop μ-loop
+unfolding part
+put-block-requires c κs =
+    let at-end = c .before .before in
+    let start = at-end .before .before .before .before .before in
+    let loop = at-end .before .before .loop in (
+      ap length (part-is at-end) ∙ part-size (loop .inv .0) (at-end .before .loop-test .taken) ∙ ap partBytes (sym (part-is at-end)),
+      ongoing-fits (start .pre .1) (shownBlock (part at-end)) (blocksFrom (start .args .records .now) (at-end .block-end .result) (loop .left - 1)) (turn at-end),
+    )
+
+sub-left : tie.Need-sub-left Inv-loop μ-loop
+sub-left c = search needs
+
+loop-less : tie.Need-loop-less Inv-loop μ-loop
+loop-less c = search needs
+
+loop-again : tie.Need-loop-again Inv-loop μ-loop
+unfolding part
+loop-again c =
+    let at-end = c .before .before .before .before .before in
+    let start = at-end .before .before .before .before .before in
+    let loop = at-end .before .before .loop in (
+      subst (Coming (start .args .records .now) (loop .left - 1)) (sym (ends at-end)) (coming-next (loop .inv .0) (at-end .before .loop-test .taken)),
+      ongoing-next (start .pre .1) (shownBlock (part at-end)) (blocksFrom (start .args .records .now) (at-end .block-end .result) (loop .left - 1)) (turn at-end) (c .before .before .put-block .ensures),
+    )
+
+same-length : tie.Need-same-length Inv-loop μ-loop
+same-length c = ongoing-size (c .before .before .before .before .pre .1) (c .before .loop .inv .1)
+
+returns : tie.Need-returns Inv-loop μ-loop
+returns c =
+    let start = c .before .before .before .before in
+    let loop = c .before .loop in
+    let none : loop .left ≡ 0 = omega (arith, c .loop-test .left) in
+    ongoing-all
+    (subst (λ (rest : List ℕ). Ongoing (start .args .output .now) (start .args .at) (shownBlocks (start .args .many) (start .args .records .now)) rest (loop .output) (loop .to))
+    (ap (blocksFrom (start .args .records .now) (loop .start)) none)
+    (loop .inv .1))
+
+pub put-blocks-spec : {M : Type 1} → statement M
+put-blocks-spec =
+    tie.close
+    (tie.spec
+    Inv-loop
+    μ-loop
+    loop-holds
+    block-end-requires
+    sub-put-block
+    part-put-block-start
+    part-put-block-end
+    put-block-requires
+    sub-left
+    loop-less
+    loop-again
+    same-length
+    returns)

@@ -1,0 +1,2 @@
+-- The definitions that the contracts of `treap_links` cite.
+pub mod Links

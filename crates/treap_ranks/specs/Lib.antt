@@ -1,0 +1,2 @@
+-- The definitions that the contracts of `treap_ranks` cite.
+pub mod Steps
