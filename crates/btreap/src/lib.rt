@@ -4,13 +4,11 @@ ghost use mathlib.Core.Path.{_≡_};
 ghost use Rattle.call_step.specs.Steps.{stepReply, stepPlace};
 ghost use Rattle.call_meaning.specs.Calls.{setUpReply, setUpAfter, buildReply, buildAfter, insertReply, insertAfter, deleteReply, deleteAfter, lookupReply, rangeReply, rangeOutput, writeReply, writeOutput, readReply, readAfter};
 ghost use Rattle.call_list.specs.Listed.{listReply, listOutput};
-ghost use Rattle.btreap.specs.Flat.{ranked, found, sized, stepped, placeGiven, markAfter};
-use flat::FoundReply;
-use flat::RankedReply;
-use flat::SizedReply;
-use flat::SteppedReply;
-
-mod flat;
+ghost use Rattle.btreap_structs.specs.Structs.{ranked, found, sized, stepped, placeGiven, markAfter};
+use btreap_structs::FoundReply;
+use btreap_structs::RankedReply;
+use btreap_structs::SizedReply;
+use btreap_structs::SteppedReply;
 
 // Make of any words of a right length the blank table of an order. Refusals: 1, 2.
 #[no_mangle]
@@ -19,7 +17,7 @@ pub extern "C" fn btreap_set_up(table: &mut [u64], order: u64) -> u64
     ensures { λ _. ⌜ now (table .exit) ≡ setUpAfter (now (table .entry)) order ⌝ }
 {
     let answer = index::set_up(table, order);
-    flat::set_up(answer)
+    btreap_structs::set_up(answer)
 }
 
 // Make of any words of a right length the table of an order and a strictly rising list of keys. Refusals: 1, 2, 5, 10.
@@ -29,7 +27,7 @@ pub extern "C" fn btreap_build(table: &mut [u64], order: u64, list: &[u64]) -> u
     ensures { λ _. ⌜ now (table .exit) ≡ buildAfter (now (table .entry)) order (now (list .entry)) ⌝ }
 {
     let answer = index::build(table, order, list);
-    flat::built(answer)
+    btreap_structs::built(answer)
 }
 
 // Insert a key; the rank that it then has. Refusals: 1, 3, 7, 8, 10.
@@ -39,7 +37,7 @@ pub extern "C" fn btreap_insert(table: &mut [u64], key: u64) -> RankedReply
     ensures { λ _. ⌜ now (table .exit) ≡ insertAfter (now (table .entry)) key ⌝ }
 {
     let answer = index::insert(table, key);
-    flat::inserted(answer)
+    btreap_structs::inserted(answer)
 }
 
 // Delete a key; the rank that it had. Refusals: 1, 3, 7, 9.
@@ -49,7 +47,7 @@ pub extern "C" fn btreap_delete(table: &mut [u64], key: u64) -> RankedReply
     ensures { λ _. ⌜ now (table .exit) ≡ deleteAfter (now (table .entry)) key ⌝ }
 {
     let answer = index::delete(table, key);
-    flat::deleted(answer)
+    btreap_structs::deleted(answer)
 }
 
 // Look a key up: whether it is held, where it stands, and how many blocks hold the keys compared. Refusals: 1, 3, 7.
@@ -58,7 +56,7 @@ pub extern "C" fn btreap_lookup(table: &[u64], key: u64) -> FoundReply
     ensures { λ r. ⌜ found r ≡ lookupReply (now (table .entry)) key ⌝ }
 {
     let answer = index::look_up(table, key);
-    flat::looked_up(answer)
+    btreap_structs::looked_up(answer)
 }
 
 // Write at the start of `output` the keys that the table holds from `low` to `high`, both included, rising. Refusals: 1, 4, 7, 11.
@@ -68,7 +66,7 @@ pub extern "C" fn btreap_range(table: &[u64], low: u64, high: u64, output: &mut 
     ensures { λ _. ⌜ now (output .exit) ≡ rangeOutput (now (table .entry)) low high (now (output .entry)) ⌝ }
 {
     let answer = index::range(table, low, high, output);
-    flat::ranged(answer)
+    btreap_structs::ranged(answer)
 }
 
 // The least key that the table holds from `next` to `high`, and the place after it; the place is done where `done` is not zero.
@@ -83,8 +81,8 @@ pub extern "C" fn btreap_step(table: &[u64], next: u64, high: u64, done: u64) ->
     let moved = call_step::step_at(table, next, high, done != 0);
     let answer = moved.answer;
     let place = moved.place;
-    let mark = flat::mark_after(done, place.done);
-    flat::stepped(answer, place.next, place.high, mark)
+    let mark = btreap_structs::mark_after(done, place.done);
+    btreap_structs::stepped(answer, place.next, place.high, mark)
 }
 
 // Write the table's image at the start of `output`; how many bytes it has. Refusals: 1, 7, 11.
@@ -94,7 +92,7 @@ pub extern "C" fn btreap_write(table: &[u64], output: &mut [u8]) -> SizedReply
     ensures { λ _. ⌜ now (output .exit) ≡ writeOutput (now (table .entry)) (now (output .entry)) ⌝ }
 {
     let answer = call_image::write(table, output);
-    flat::written(answer)
+    btreap_structs::written(answer)
 }
 
 // Make of any words of a right length the table whose image the bytes are. Refusals: 1, 6, 10.
@@ -104,7 +102,7 @@ pub extern "C" fn btreap_read(table: &mut [u64], image: &[u8]) -> u64
     ensures { λ _. ⌜ now (table .exit) ≡ readAfter (now (table .entry)) (now (image .entry)) ⌝ }
 {
     let answer = call_image::read(table, image);
-    flat::read_back(answer)
+    btreap_structs::read_back(answer)
 }
 
 // Write the text of an image at the start of `output`; how many bytes it has. Refusals: 6, 11.
@@ -114,5 +112,5 @@ pub extern "C" fn btreap_list(image: &[u8], output: &mut [u8]) -> SizedReply
     ensures { λ _. ⌜ now (output .exit) ≡ listOutput (now (image .entry)) (now (output .entry)) ⌝ }
 {
     let answer = call_list::list(image, output);
-    flat::listed(answer)
+    btreap_structs::listed(answer)
 }

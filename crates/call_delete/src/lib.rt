@@ -5,10 +5,10 @@ ghost use lib.ListN.{length};
 ghost use Rattle.table.specs.Layout.{mostSlots, tableWords};
 ghost use Rattle.call_replies.specs.Replies.{deletedOf};
 ghost use Rattle.call_meaning.specs.Calls.{deleteReply, deleteAfter};
-use table_examine::Verdict;
 use call_replies::Deleted;
 use call_replies::Refusal;
 use table::ORDER_WORD;
+use table_examine::Verdict;
 
 // Delete a key from a table of `many` slots, with `keys` to work in.
 fn delete_in(table: &mut [u64], many: usize, key: u64, keys: &mut [u64]) -> Deleted

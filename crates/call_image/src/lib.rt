@@ -8,15 +8,15 @@ ghost use Rattle.image.specs.Layout.{headerBytes, nodeBytes};
 ghost use Rattle.image_collect.specs.Reading.{RoomFor};
 ghost use Rattle.call_replies.specs.Replies.{writtenOf, readBackOf};
 ghost use Rattle.call_meaning.specs.Calls.{writeReply, writeOutput, readReply, readAfter};
-use table_examine::Verdict;
+use call_replies::ReadBack;
+use call_replies::Refusal;
+use call_replies::Written;
 use image::MEDIUM_BYTES;
 use image::ORDER_AT;
 use image::ORDER_BYTES;
 use image_recognize::Recognized;
-use call_replies::ReadBack;
-use call_replies::Refusal;
-use call_replies::Written;
 use table::ORDER_WORD;
+use table_examine::Verdict;
 
 // Write the image of a table of `many` slots, with `keys` to work in.
 fn write_in(table: &[u64], many: usize, keys: &mut [u64], output: &mut [u8]) -> Written

@@ -5,10 +5,10 @@ ghost use lib.ListN.{length};
 ghost use Rattle.table.specs.Layout.{mostSlots, tableWords};
 ghost use Rattle.call_replies.specs.Replies.{insertedOf};
 ghost use Rattle.call_meaning.specs.Calls.{insertReply, insertAfter};
-use table_examine::Verdict;
 use call_replies::Inserted;
 use call_replies::Refusal;
 use table::ORDER_WORD;
+use table_examine::Verdict;
 
 // Insert a key into a table of `many` slots, with `keys` to work in.
 fn insert_in(table: &mut [u64], many: usize, key: u64, keys: &mut [u64]) -> Inserted

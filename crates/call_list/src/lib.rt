@@ -8,11 +8,11 @@ ghost use Rattle.table.specs.Layout.{tableWords};
 ghost use Rattle.text.specs.Written.{Written};
 ghost use Rattle.call_replies.specs.Replies.{listedOf};
 ghost use Rattle.call_list.specs.Listed.{listReply, listOutput, programSlots, programRefusal, refusedText, programText};
-use image::MEDIUM_BYTES;
-use image_recognize::Recognized;
 use call_replies::Listed;
 use call_replies::ReadBack;
 use call_replies::Refusal;
+use image::MEDIUM_BYTES;
+use image_recognize::Recognized;
 
 // The most bytes that the listing program reads, and room for all that it prints.
 pub const PROGRAM_BYTES: usize = 44015;

@@ -2,9 +2,9 @@
 ghost use mathlib.Core.Path.{_≡_};
 ghost use Rattle.call_replies.specs.Replies.{lookedUpOf};
 ghost use Rattle.call_meaning.specs.Calls.{lookupReply};
-use table_descend::Looked;
 use call_replies::LookedUp;
 use call_replies::Refusal;
+use table_descend::Looked;
 
 // Look a key up: whether it is held, where it stands, and how many blocks hold the keys compared. Refusals: 1, 3, 7.
 pub fn look_up(table: &[u64], key: u64) -> LookedUp

@@ -5,9 +5,9 @@ ghost use lib.ListN.{length};
 ghost use Rattle.table.specs.Layout.{mostSlots, tableWords};
 ghost use Rattle.call_replies.specs.Replies.{rangedOf};
 ghost use Rattle.call_meaning.specs.Calls.{rangeReply, rangeOutput};
-use table_examine::Verdict;
 use call_replies::Ranged;
 use call_replies::Refusal;
+use table_examine::Verdict;
 
 // The range of a table of `many` slots, with `keys` to work in.
 fn range_in(

@@ -8,3 +8,5 @@ pub mod Entries
 pub mod Running
 pub mod Agreeing
 pub mod Claims
+pub mod Tested
+pub mod Meeting

@@ -2,3 +2,5 @@
 pub mod Call
 pub mod Book
 pub mod Theorems
+pub mod Tests
+pub mod Hypotheses

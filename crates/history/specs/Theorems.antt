@@ -20,8 +20,11 @@ use Rattle.history.specs.Book.{withKey, withoutKey, notes, bookOf, reply
 
 -- "A table has M slots, M from 1 to 4,096, and lives in lent 64-bit words, 3 + 6·M of them": any words of that number.
 pub record Table (many : ℕ) (words : List ℕ) : Type 0 where
+  -- "M from 1"
   pub some : 1 ≤ many
+  -- "to 4,096"
   pub most : many ≤ mostSlots
+  -- "3 + 6·M of them"
   pub long : length words ≡ tableWords many
 
 -- The same order and the same set of keys.

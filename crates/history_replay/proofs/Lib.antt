@@ -1,2 +1,3 @@
 -- Laws of scripts.
 pub mod Replaying
+pub mod Scripts

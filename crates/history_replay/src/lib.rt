@@ -1,7 +1,7 @@
 // Running a history of calls that is written down in words.
 ghost use mathlib.Core.Path.{_≡_};
 ghost use Rattle.history.specs.Call.{run, runs};
-ghost use Rattle.history_replay.specs.Script.{callOf, callsIn};
+ghost use Rattle.history_replay.specs.Script.{callOf, callsIn, BuiltFromBook};
 
 // The numbers of the calls; any other number is a lookup.
 pub const SET_UP: u64 = 0;
@@ -29,9 +29,11 @@ fn run_call(table: &mut [u64], kind: u64, value: u64)
     index::look_up(table, value);
 }
 
-// Run the calls of a script, two words a call, over a table; refused calls change nothing.
+// Run the calls of a script, two words a call, over a table; refused calls change nothing. Where the first call is an accepted set-up, the
+// script is a history, and the table is then the one built afresh from its book.
 pub fn replay(table: &mut [u64], script: &[u64])
     ensures { λ _. ⌜ now (table .exit) ≡ runs (callsIn (now (script .entry))) (now (table .entry)) ⌝ }
+    ensures { λ _. ⌜ BuiltFromBook (now (script .entry)) (now (table .entry)) (now (table .exit)) ⌝ }
 {
     let n = script.len();
     let mut at = 0;

@@ -9,5 +9,5 @@ pub use call_delete::delete;
 pub use call_insert::insert;
 
 // Read a table: the keys from one to another, or all about one key.
-pub use call_range::range;
 pub use call_lookup::look_up;
+pub use call_range::range;

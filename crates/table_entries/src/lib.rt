@@ -12,7 +12,6 @@ ghost use Rattle.table.specs.Table.{contentsOf};
 ghost use Rattle.table.specs.Sound.{soundWith};
 ghost use Rattle.table_find.specs.Find.{OnlyAt};
 ghost use Rattle.table_entries.specs.Steps.{nextKey, InSlot};
-use table_find::Found;
 use priority::CONSTANT_COUNT;
 use table::HEADER_WORDS;
 use table::KEY_FIELD;
@@ -21,6 +20,7 @@ use table::RANK_FIELD;
 use table::RIGHT_FIELD;
 use table::ROOT_WORD;
 use table::SLOT_WORDS;
+use table_find::Found;
 
 // A word of a slot, by its field. Internal to this library's crates.
 pub fn word_of(table: &[u64], slot: usize, field: usize) -> u64

@@ -5,7 +5,7 @@ use Rattle.btreap.proofs.btreap_build.Statement.{statement}
 use Rattle.btreap.proofs.btreap_build.Tie as tie
 use Rattle.btreap.proofs.btreap_build.Reads as reads
 use Rattle.btreap.proofs.btreap_build.Lts as lts
-use Rattle.btreap.proofs.flat.built.Reads as built-reads
+use Rattle.btreap_structs.proofs.built.Reads as built-reads
 use Rattle.index.proofs.build.Reads as build-reads
 
 build-requires : tie.Need-build-requires

@@ -5,7 +5,7 @@ use Rattle.btreap.proofs.btreap_delete.Statement.{statement}
 use Rattle.btreap.proofs.btreap_delete.Tie as tie
 use Rattle.btreap.proofs.btreap_delete.Reads as reads
 use Rattle.btreap.proofs.btreap_delete.Lts as lts
-use Rattle.btreap.proofs.flat.deleted.Reads as deleted-reads
+use Rattle.btreap_structs.proofs.deleted.Reads as deleted-reads
 use Rattle.index.proofs.delete.Reads as delete-reads
 
 delete-requires : tie.Need-delete-requires

@@ -5,7 +5,7 @@ use Rattle.btreap.proofs.btreap_insert.Statement.{statement}
 use Rattle.btreap.proofs.btreap_insert.Tie as tie
 use Rattle.btreap.proofs.btreap_insert.Reads as reads
 use Rattle.btreap.proofs.btreap_insert.Lts as lts
-use Rattle.btreap.proofs.flat.inserted.Reads as inserted-reads
+use Rattle.btreap_structs.proofs.inserted.Reads as inserted-reads
 use Rattle.index.proofs.insert.Reads as insert-reads
 
 insert-requires : tie.Need-insert-requires

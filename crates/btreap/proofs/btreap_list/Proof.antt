@@ -5,7 +5,7 @@ use Rattle.btreap.proofs.btreap_list.Statement.{statement}
 use Rattle.btreap.proofs.btreap_list.Tie as tie
 use Rattle.btreap.proofs.btreap_list.Reads as reads
 use Rattle.btreap.proofs.btreap_list.Lts as lts
-use Rattle.btreap.proofs.flat.listed.Reads as listed-reads
+use Rattle.btreap_structs.proofs.listed.Reads as listed-reads
 use Rattle.call_list.proofs.list.Reads as list-reads
 
 list-requires : tie.Need-list-requires

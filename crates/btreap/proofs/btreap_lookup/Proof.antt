@@ -5,7 +5,7 @@ use Rattle.btreap.proofs.btreap_lookup.Statement.{statement}
 use Rattle.btreap.proofs.btreap_lookup.Tie as tie
 use Rattle.btreap.proofs.btreap_lookup.Reads as reads
 use Rattle.btreap.proofs.btreap_lookup.Lts as lts
-use Rattle.btreap.proofs.flat.looked_up.Reads as looked-up-reads
+use Rattle.btreap_structs.proofs.looked_up.Reads as looked-up-reads
 use Rattle.index.proofs.look_up.Reads as look-up-reads
 
 look-up-requires : tie.Need-look-up-requires

@@ -5,7 +5,7 @@ use Rattle.btreap.proofs.btreap_range.Statement.{statement}
 use Rattle.btreap.proofs.btreap_range.Tie as tie
 use Rattle.btreap.proofs.btreap_range.Reads as reads
 use Rattle.btreap.proofs.btreap_range.Lts as lts
-use Rattle.btreap.proofs.flat.ranged.Reads as ranged-reads
+use Rattle.btreap_structs.proofs.ranged.Reads as ranged-reads
 use Rattle.index.proofs.range.Reads as range-reads
 
 range-requires : tie.Need-range-requires

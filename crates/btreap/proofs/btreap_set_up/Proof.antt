@@ -5,7 +5,7 @@ use Rattle.btreap.proofs.btreap_set_up.Statement.{statement}
 use Rattle.btreap.proofs.btreap_set_up.Tie as tie
 use Rattle.btreap.proofs.btreap_set_up.Reads as reads
 use Rattle.btreap.proofs.btreap_set_up.Lts as lts
-use Rattle.btreap.proofs.flat.set_up.Reads as flat-set-up-reads
+use Rattle.btreap_structs.proofs.set_up.Reads as structs-set-up-reads
 use Rattle.index.proofs.set_up.Reads as set-up-reads
 
 set-up-requires : tie.Need-set-up-requires

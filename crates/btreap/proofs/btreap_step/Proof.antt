@@ -1,14 +1,14 @@
 -- `btreap::btreap_step` meets its contract. Assumes nothing.
 use mathlib.Core.Path.{ap, _∙_}
 use Rattle.call_step.specs.declared.Place.{Place}
-use Rattle.btreap.specs.Flat.{markAfter}
+use Rattle.btreap_structs.specs.Structs.{markAfter}
 use borrow.Author.Needs.{needs}
 use Rattle.btreap.proofs.btreap_step.Statement.{statement}
 use Rattle.btreap.proofs.btreap_step.Tie as tie
 use Rattle.btreap.proofs.btreap_step.Reads as reads
 use Rattle.btreap.proofs.btreap_step.Lts as lts
-use Rattle.btreap.proofs.flat.mark_after.Reads as mark-after-reads
-use Rattle.btreap.proofs.flat.stepped.Reads as stepped-reads
+use Rattle.btreap_structs.proofs.mark_after.Reads as mark-after-reads
+use Rattle.btreap_structs.proofs.stepped.Reads as stepped-reads
 use Rattle.call_step.proofs.step_at.Reads as step-at-reads
 
 step-at-requires : tie.Need-step-at-requires

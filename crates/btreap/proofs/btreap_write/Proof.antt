@@ -5,7 +5,7 @@ use Rattle.btreap.proofs.btreap_write.Statement.{statement}
 use Rattle.btreap.proofs.btreap_write.Tie as tie
 use Rattle.btreap.proofs.btreap_write.Reads as reads
 use Rattle.btreap.proofs.btreap_write.Lts as lts
-use Rattle.btreap.proofs.flat.written.Reads as written-reads
+use Rattle.btreap_structs.proofs.written.Reads as written-reads
 use Rattle.call_image.proofs.write.Reads as write-reads
 
 write-requires : tie.Need-write-requires

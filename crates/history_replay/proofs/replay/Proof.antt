@@ -4,6 +4,9 @@ use mathlib.Core.Path.{_≡_, refl}
 use Prim.Native.Nat.{_-_}
 use native.Mathlib.Omega.{arith}
 use lib.ListN.{length}
+use Rattle.lists.proofs.Keep.{all-of-indices}
+use Rattle.history.specs.Call.{IsWord}
+use Rattle.history_replay.proofs.Scripts.{built-from-book}
 use Rattle.history_replay.proofs.Replaying.{Replayed, replayed-none, replayed-more, replayed-all}
 use borrow.Author.Needs.{needs}
 use Rattle.history_replay.proofs.replay.Statement.{statement}
@@ -65,7 +68,9 @@ returns : tie.Need-returns Inv-loop μ-loop
 returns c =
     let p = c .before in
     let args = p .before .before .before .args in
-    replayed-all (args .script .now) (args .table .now) (p .loop .table) (p .loop .at) (p .loop .inv .0) (c .loop-test .left)
+    let ran = replayed-all (args .script .now) (args .table .now) (p .loop .table) (p .loop .at) (p .loop .inv .0) (c .loop-test .left) in
+    let sized = all-of-indices IsWord (args .script .now) 0 (λ i l. omega (arith, p .before .shared-slice-known .given i)) in
+    (ran, built-from-book (args .script .now) (args .table .now) (p .loop .table) sized ran)
 
 pub replay-spec : {M : Type 1} → statement M
 replay-spec =

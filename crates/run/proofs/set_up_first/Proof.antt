@@ -6,7 +6,7 @@ use Rattle.run.proofs.set_up_first.Statement.{statement}
 use Rattle.run.proofs.set_up_first.Tie as tie
 use Rattle.run.proofs.set_up_first.Reads as reads
 use Rattle.run.proofs.set_up_first.Lts as lts
-use Rattle.run.proofs.set_up.Reads as set-up-reads
+use Rattle.run.proofs.calls.set_up.Reads as set-up-reads
 
 returns : tie.Need-returns
 returns c = search needs

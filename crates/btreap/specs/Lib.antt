@@ -1,2 +1,0 @@
--- The replies as structs of numbers.
-pub mod Flat

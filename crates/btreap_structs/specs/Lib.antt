@@ -1,0 +1,2 @@
+-- The replies as structs of numbers.
+pub mod Structs

@@ -1,0 +1,235 @@
+// The answers of the calls as the structs of `include/btreap.h`: the number of a refusal, zero where there is none, and the other
+// numbers, zero where there is one.
+ghost use mathlib.Core.Path.{_≡_};
+ghost use Rattle.call_replies.specs.Replies.{numberOf, setUpOf, builtOf, insertedOf, deletedOf, lookedUpOf, rangedOf, steppedOf, writtenOf, readBackOf, listedOf};
+ghost use Rattle.btreap_structs.specs.Structs.{ranked, found, sized, stepped, markAfter};
+use call_replies::Built;
+use call_replies::Deleted;
+use call_replies::Inserted;
+use call_replies::Listed;
+use call_replies::LookedUp;
+use call_replies::Ranged;
+use call_replies::ReadBack;
+use call_replies::Refusal;
+use call_replies::SetUp;
+use call_replies::Stepped;
+use call_replies::Written;
+
+// `btreap_ranked`.
+#[repr(C)]
+pub struct RankedReply {
+    pub refusal: u64,
+    pub rank: u64,
+}
+
+// `btreap_found`; `held` is one or zero.
+#[repr(C)]
+pub struct FoundReply {
+    pub refusal: u64,
+    pub held: u64,
+    pub rank: u64,
+    pub count: u64,
+    pub leader: u64,
+    pub blocks: u64,
+}
+
+// `btreap_sized`.
+#[repr(C)]
+pub struct SizedReply {
+    pub refusal: u64,
+    pub size: u64,
+}
+
+// `btreap_stepped`; `found` is one or zero.
+#[repr(C)]
+pub struct SteppedReply {
+    pub refusal: u64,
+    pub found: u64,
+    pub key: u64,
+    pub next: u64,
+    pub high: u64,
+    pub done: u64,
+}
+
+// The reply of a call that was accepted with a rank, and of one that was refused.
+fn rank_given(rank: u64) -> RankedReply
+    ensures { λ r. ⌜ (r .refusal ≡ 0) × (r .rank ≡ rank) ⌝ }
+{
+    RankedReply { refusal: 0, rank }
+}
+
+fn rank_refused(reason: Refusal) -> RankedReply
+    ensures { λ r. ⌜ (r .refusal ≡ numberOf reason) × (r .rank ≡ 0) ⌝ }
+{
+    RankedReply {
+        refusal: call_replies::number(reason),
+        rank: 0,
+    }
+}
+
+// The reply of a call that was accepted with a size, and of one that was refused.
+fn size_given(size: usize) -> SizedReply
+    ensures { λ r. ⌜ (r .refusal ≡ 0) × (r .size ≡ size) ⌝ }
+{
+    SizedReply {
+        refusal: 0,
+        size: size as u64,
+    }
+}
+
+fn size_refused(reason: Refusal) -> SizedReply
+    ensures { λ r. ⌜ (r .refusal ≡ numberOf reason) × (r .size ≡ 0) ⌝ }
+{
+    SizedReply {
+        refusal: call_replies::number(reason),
+        size: 0,
+    }
+}
+
+pub fn set_up(answer: SetUp) -> u64
+    ensures { λ r. ⌜ r ≡ setUpOf answer .refusal ⌝ }
+{
+    match answer {
+        SetUp::Done => 0,
+        SetUp::Refused(reason) => call_replies::number(reason),
+    }
+}
+
+pub fn built(answer: Built) -> u64
+    ensures { λ r. ⌜ r ≡ builtOf answer .refusal ⌝ }
+{
+    match answer {
+        Built::Done => 0,
+        Built::Refused(reason) => call_replies::number(reason),
+    }
+}
+
+pub fn inserted(answer: Inserted) -> RankedReply
+    ensures { λ r. ⌜ ranked r ≡ insertedOf answer ⌝ }
+{
+    match answer {
+        Inserted::Rank(rank) => rank_given(rank),
+        Inserted::Refused(reason) => rank_refused(reason),
+    }
+}
+
+pub fn deleted(answer: Deleted) -> RankedReply
+    ensures { λ r. ⌜ ranked r ≡ deletedOf answer ⌝ }
+{
+    match answer {
+        Deleted::Rank(rank) => rank_given(rank),
+        Deleted::Refused(reason) => rank_refused(reason),
+    }
+}
+
+pub fn looked_up(answer: LookedUp) -> FoundReply
+    ensures { λ r. ⌜ found r ≡ lookedUpOf answer ⌝ }
+{
+    match answer {
+        LookedUp::Held(standing, blocks) => FoundReply {
+            refusal: 0,
+            held: 1,
+            rank: standing.rank,
+            count: standing.count,
+            leader: standing.leader,
+            blocks: blocks as u64,
+        },
+        LookedUp::Absent(blocks) => FoundReply {
+            refusal: 0,
+            held: 0,
+            rank: 0,
+            count: 0,
+            leader: 0,
+            blocks: blocks as u64,
+        },
+        LookedUp::Refused(reason) => FoundReply {
+            refusal: call_replies::number(reason),
+            held: 0,
+            rank: 0,
+            count: 0,
+            leader: 0,
+            blocks: 0,
+        },
+    }
+}
+
+pub fn ranged(answer: Ranged) -> SizedReply
+    ensures { λ r. ⌜ sized r ≡ rangedOf answer ⌝ }
+{
+    match answer {
+        Ranged::Wrote(size) => size_given(size),
+        Ranged::Refused(reason) => size_refused(reason),
+    }
+}
+
+pub fn written(answer: Written) -> SizedReply
+    ensures { λ r. ⌜ sized r ≡ writtenOf answer ⌝ }
+{
+    match answer {
+        Written::Bytes(size) => size_given(size),
+        Written::Refused(reason) => size_refused(reason),
+    }
+}
+
+pub fn read_back(answer: ReadBack) -> u64
+    ensures { λ r. ⌜ r ≡ readBackOf answer .refusal ⌝ }
+{
+    match answer {
+        ReadBack::Done => 0,
+        ReadBack::Refused(reason) => call_replies::number(reason),
+    }
+}
+
+pub fn listed(answer: Listed) -> SizedReply
+    ensures { λ r. ⌜ sized r ≡ listedOf answer ⌝ }
+{
+    match answer {
+        Listed::Bytes(size) => size_given(size),
+        Listed::Refused(reason) => size_refused(reason),
+    }
+}
+
+// The done mark after a step that was handed `before`: one that was set stays as it was.
+pub fn mark_after(before: u64, done: bool) -> u64
+    ensures { λ r. ⌜ r ≡ markAfter before done ⌝ }
+{
+    if !done {
+        return 0;
+    }
+    if before != 0 {
+        return before;
+    }
+    1
+}
+
+pub fn stepped(answer: Stepped, next: u64, high: u64, done: u64) -> SteppedReply
+    ensures { λ r. ⌜ stepped r ≡ steppedOf answer ⌝ }
+    ensures { λ r. ⌜ (r .next ≡ next) × (r .high ≡ high) × (r .done ≡ done) ⌝ }
+{
+    match answer {
+        Stepped::Key(key) => SteppedReply {
+            refusal: 0,
+            found: 1,
+            key,
+            next,
+            high,
+            done,
+        },
+        Stepped::End => SteppedReply {
+            refusal: 0,
+            found: 0,
+            key: 0,
+            next,
+            high,
+            done,
+        },
+        Stepped::Refused(reason) => SteppedReply {
+            refusal: call_replies::number(reason),
+            found: 0,
+            key: 0,
+            next,
+            high,
+            done,
+        },
+    }
+}

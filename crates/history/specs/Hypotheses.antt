@@ -1,0 +1,36 @@
+-- What is claimed of the hypotheses of the claims on histories: every table, every call and every history that document 01 speaks of
+-- meets them, so that no claim is empty. `proofs/Meeting` proves it. Assumes nothing.
+use mathlib.Core.List.{List, _∷_}
+use mathlib.Core.Path.{_≡_}
+use Prim.Native.Nat.{ℕ, _^_, _<_, _≤_}
+use lib.ListN.{length}
+use Rattle.lists.specs.Lists.{All}
+use Rattle.table.specs.Layout.{mostSlots, leastOrder, greatestOrder, tableWords}
+use Rattle.image.specs.Layout.{IsByte}
+use Rattle.call_step.specs.declared.Place.{Place}
+use Rattle.history.specs.Call.{Call, setUp, build, reading, insert, delete, lookup, range, writing, step, IsWord, Lent, History, callsOf}
+use Rattle.history.specs.Theorems.{Table}
+
+-- "A table has M slots, M from 1 to 4,096, and lives in lent 64-bit words, 3 + 6·M of them": any words of that number are a table.
+abbrev pub EveryTable : Type 0
+EveryTable = (many : ℕ) (words : List ℕ) → 1 ≤ many → many ≤ mostSlots → length words ≡ tableWords many → Table many words
+
+-- "Each call brings its own inputs, whatever they hold": every call with 64-bit numbers and bytes is a call of a history.
+pub record EveryCall : Type 0 where
+  pub words : (n : ℕ) → n < 2 ^ 64 → IsWord n
+  pub bytes : (b : ℕ) → b < 256 → IsByte b
+  pub set-ups : (order : ℕ) → IsWord order → Lent (setUp order)
+  pub builds : (order : ℕ) (list : List ℕ) → IsWord order → All IsWord list → Lent (build order list)
+  pub readings : (image : List ℕ) → All IsByte image → Lent (reading image)
+  pub inserts : (key : ℕ) → IsWord key → Lent (insert key)
+  pub deletes : (key : ℕ) → IsWord key → Lent (delete key)
+  pub lookups : (key : ℕ) → IsWord key → Lent (lookup key)
+  pub ranges : (low high : ℕ) (output : List ℕ) → IsWord low → IsWord high → All IsWord output → Lent (range low high output)
+  pub writings : (output : List ℕ) → All IsByte output → Lent (writing output)
+  pub steps : (place : Place) → IsWord (place .next) → IsWord (place .high) → Lent (step place)
+
+-- "Its first call is an accepted set-up": every such list of calls is a history.
+abbrev pub EveryHistory : Type 0
+EveryHistory =
+    (order : ℕ) (later : List Call) → leastOrder ≤ order → order ≤ greatestOrder → All Lent later
+    → (history : History) × (callsOf history ≡ setUp order ∷ later)

@@ -1,0 +1,215 @@
+// Each call with a line of text: the call, what it was given and, after the colon, its reply: the refusal's number, 0 for none, then the
+// reply's numbers.
+ghost use mathlib.Core.Path.{_≡_};
+ghost use Rattle.call_replies.specs.Replies.{steppedOf};
+ghost use Rattle.call_step.specs.Steps.{stepReply, stepPlace};
+use call_replies::Built;
+use call_replies::Deleted;
+use call_replies::Inserted;
+use call_replies::Listed;
+use call_replies::LookedUp;
+use call_replies::Ranged;
+use call_replies::ReadBack;
+use call_replies::Refusal;
+use call_replies::SetUp;
+use call_replies::Stepped;
+use call_replies::Written;
+use call_step::Moved;
+use call_step::Place;
+
+pub fn say(text: &[u8]) {
+    io::write_all(1, text);
+}
+
+fn say_first(text: &[u8], n: usize) {
+    if n <= text.len() {
+        say(&text[..n]);
+    }
+}
+
+fn tell(number: u64) {
+    io::write_all(1, b" ");
+    io::print_decimal(1, number);
+}
+
+fn refused(reason: Refusal) {
+    tell(call_replies::number(reason));
+}
+
+pub fn set_up(table: &mut [u64], order: u64) {
+    say(b"set-up of words");
+    tell(table.len() as u64);
+    say(b" order");
+    tell(order);
+    say(b":");
+    let answer = index::set_up(table, order);
+    match answer {
+        SetUp::Done => tell(0),
+        SetUp::Refused(reason) => refused(reason),
+    }
+    say(b"\n");
+}
+
+// A build from two numbers.
+pub fn build(table: &mut [u64], order: u64, first: u64, second: u64) {
+    let list = [first, second];
+    say(b"build of order");
+    tell(order);
+    say(b" from");
+    tell(first);
+    tell(second);
+    say(b":");
+    let answer = index::build(table, order, &list);
+    match answer {
+        Built::Done => tell(0),
+        Built::Refused(reason) => refused(reason),
+    }
+    say(b"\n");
+}
+
+pub fn insert(table: &mut [u64], key: u64) {
+    say(b"insert");
+    tell(key);
+    say(b":");
+    let answer = index::insert(table, key);
+    match answer {
+        Inserted::Rank(rank) => {
+            tell(0);
+            tell(rank);
+        }
+        Inserted::Refused(reason) => refused(reason),
+    }
+    say(b"\n");
+}
+
+pub fn delete(table: &mut [u64], key: u64) {
+    say(b"delete");
+    tell(key);
+    say(b":");
+    let answer = index::delete(table, key);
+    match answer {
+        Deleted::Rank(rank) => {
+            tell(0);
+            tell(rank);
+        }
+        Deleted::Refused(reason) => refused(reason),
+    }
+    say(b"\n");
+}
+
+pub fn look_up(table: &[u64], key: u64) {
+    say(b"lookup");
+    tell(key);
+    say(b":");
+    let answer = index::look_up(table, key);
+    match answer {
+        LookedUp::Held(standing, blocks) => {
+            say(b" 0 held");
+            tell(standing.rank);
+            tell(standing.count);
+            tell(standing.leader);
+            tell(blocks as u64);
+        }
+        LookedUp::Absent(blocks) => {
+            say(b" 0 absent");
+            tell(blocks as u64);
+        }
+        LookedUp::Refused(reason) => refused(reason),
+    }
+    say(b"\n");
+}
+
+// A range with room for two keys.
+pub fn range(table: &[u64], low: u64, high: u64) {
+    let mut output = [0u64; 2];
+    say(b"range");
+    tell(low);
+    tell(high);
+    say(b":");
+    let answer = index::range(table, low, high, &mut output);
+    match answer {
+        Ranged::Wrote(n) => {
+            tell(0);
+            tell(n as u64);
+            tell(output[0]);
+            tell(output[1]);
+        }
+        Ranged::Refused(reason) => refused(reason),
+    }
+    say(b"\n");
+}
+
+pub fn write(table: &[u64], image: &mut [u8]) {
+    say(b"write:");
+    let answer = call_image::write(table, image);
+    match answer {
+        Written::Bytes(n) => {
+            tell(0);
+            tell(n as u64);
+        }
+        Written::Refused(reason) => refused(reason),
+    }
+    say(b"\n");
+}
+
+pub fn read(table: &mut [u64], image: &[u8]) {
+    say(b"read:");
+    let answer = call_image::read(table, image);
+    match answer {
+        ReadBack::Done => tell(0),
+        ReadBack::Refused(reason) => refused(reason),
+    }
+    say(b"\n");
+}
+
+// The listing of an image, with the text after the line.
+pub fn list(image: &[u8], output: &mut [u8]) {
+    say(b"list:");
+    let answer = call_list::list(image, output);
+    match answer {
+        Listed::Bytes(n) => {
+            tell(0);
+            tell(n as u64);
+            say(b"\n");
+            say_first(output, n);
+        }
+        Listed::Refused(reason) => {
+            refused(reason);
+            say(b"\n");
+        }
+    }
+}
+
+// One step from a place that is lent to it: the answer, and the place as the step left it.
+fn step_lent(table: &[u64], place: Place) -> Moved
+    ensures { λ r. ⌜ steppedOf (r .answer) ≡ stepReply (now (table .entry)) place ⌝ }
+    ensures { λ r. ⌜ r .place ≡ stepPlace (now (table .entry)) place ⌝ }
+{
+    let mut lent = place;
+    let answer = call_step::step(table, &mut lent);
+    Moved {
+        answer,
+        place: lent,
+    }
+}
+
+fn stepped(answer: Stepped) {
+    match answer {
+        Stepped::Key(key) => {
+            say(b" 0 key");
+            tell(key);
+        }
+        Stepped::End => say(b" 0 end"),
+        Stepped::Refused(reason) => refused(reason),
+    }
+    say(b"\n");
+}
+
+// A step from a place; the place after it.
+pub fn step(table: &[u64], place: Place) -> Place {
+    say(b"step:");
+    let moved = step_lent(table, place);
+    let answer = moved.answer;
+    stepped(answer);
+    moved.place
+}
