@@ -10,7 +10,8 @@
  * The image.  15 + 14*b + 30*n bytes for n keys in b blocks; no image is longer than BTREAP_LONGEST_IMAGE = 180,239 bytes.
  *
  * Any words, numbers and bytes may be handed in: each call replies, and a call that refuses changes none of the lent memory. `refusal` is
- * 0 when the call was accepted; all other numbers of a reply are 0 when it was refused. Of several refusals the lowest is given:
+ * 0 when the call was accepted; all other numbers of a reply are 0 when it was refused, except the three of a step's place (next, high,
+ * done), which then come back as they were passed. Of several refusals the lowest is given:
  *
  *    1  the number of words is not 3 + 6*M for an M from 1 to 4,096
  *    2  the order is outside 3 to 255

@@ -15,7 +15,7 @@ use Rattle.lists.proofs.Membership.{eqb-same}
 use Rattle.lists.proofs.Pairwise.{pairwise-keep}
 use Rattle.lists.proofs.Sorting.{all-permuted, length-permuted, insertBy-permutes}
 use Rattle.table.specs.Contents.{Contents, IsKey, Valid}
-use Rattle.call_sets.specs.Edit.{joined, without}
+use Rattle.call_sets.specs.Sets.{joined, without}
 
 -- ---- a key more
 module _ (key : ℕ) where

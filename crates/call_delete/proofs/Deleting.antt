@@ -14,7 +14,7 @@ use Rattle.table.specs.Layout.{mostSlots, tableWords}
 use Rattle.table.specs.Table.{fresh, contentsOf}
 use Rattle.table.specs.Sound.{soundWith}
 use Rattle.table_limits.specs.Lengths.{slotsFor}
-use Rattle.call_sets.specs.Edit.{without}
+use Rattle.call_sets.specs.Sets.{without}
 use Rattle.call_replies.specs.Replies.{deletedOf}
 use Rattle.call_replies.specs.declared.Refusal.the-variants.{WrongLength, ZeroKey, NotSound, KeyAbsent}
 use Rattle.call_replies.specs.declared.Deleted.{Deleted}

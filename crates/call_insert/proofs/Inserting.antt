@@ -15,7 +15,7 @@ use Rattle.table.specs.Layout.{mostSlots, tableWords}
 use Rattle.table.specs.Table.{fresh, contentsOf}
 use Rattle.table.specs.Sound.{soundWith}
 use Rattle.table_limits.specs.Lengths.{slotsFor}
-use Rattle.call_sets.specs.Edit.{joined}
+use Rattle.call_sets.specs.Sets.{joined}
 use Rattle.call_replies.specs.Replies.{insertedOf}
 use Rattle.call_replies.specs.declared.Refusal.the-variants.{WrongLength, ZeroKey, NotSound, KeyHeld, TooManyKeys}
 use Rattle.call_replies.specs.declared.Inserted.{Inserted}

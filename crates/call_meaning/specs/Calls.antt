@@ -10,7 +10,7 @@ use Rattle.treap.specs.Blocks.{blocksMet}
 use Rattle.table.specs.Contents.{Contents}
 use Rattle.table.specs.Table.{fresh}
 use Rattle.image.specs.Image.{imageOf, readImage}
-use Rattle.call_sets.specs.Edit.{joined, without}
+use Rattle.call_sets.specs.Sets.{joined, without}
 use Rattle.table_limits.specs.Lengths.{slotsFor}
 use Rattle.intervals.specs.Intervals.{within}
 use Rattle.call_replies.specs.Replies.{Reply, lowest, unlessRefused}

@@ -10,7 +10,7 @@ use borrow.Author.Tests.{lt-ltb, le-ltb}
 use Rattle.lists.specs.Lists.{All, Rising, insertBy, overwrite}
 use Rattle.lists.proofs.Keep.{all-at}
 use Rattle.lists.proofs.Overwrite.{overwrite-none}
-use Rattle.call_sets.specs.Edit.{joined}
+use Rattle.call_sets.specs.Sets.{joined}
 
 -- ---- the place of a key
 -- a key goes before those above it and after those that are not

@@ -1,2 +1,2 @@
 -- The definitions that the contracts of `call_sets` cite.
-pub mod Edit
+pub mod Sets

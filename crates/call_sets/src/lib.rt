@@ -3,7 +3,7 @@ ghost use mathlib.Core.Path.{_≡_};
 ghost use Prim.Native.Nat.{_<_, _≤_};
 ghost use lib.ListN.{length, take};
 ghost use Rattle.lists.specs.Lists.{Rising, overwrite};
-ghost use Rattle.call_sets.specs.Edit.{joined, without};
+ghost use Rattle.call_sets.specs.Sets.{joined, without};
 
 // Put a key into its place among the first `n`, which rise; those above it move up. Internal to this library's crates: their
 // lists have room for it.

@@ -9,7 +9,7 @@ use borrow.Author.Tests.{eq-eqb, ne-eqb}
 use Rattle.table.specs.Table.{contentsOf}
 use Rattle.table_limits.specs.Lengths.{slotsFor}
 use Rattle.table_judge.specs.Judge.{isSound}
-use Rattle.table_least.specs.Seek.{leastWithin}
+use Rattle.table_least.specs.LeastKey.{leastWithin}
 use Rattle.call_replies.specs.Replies.{steppedOf}
 use Rattle.call_replies.specs.declared.Refusal.{Refusal}
 use Rattle.call_replies.specs.declared.Refusal.the-variants.{WrongLength, NotSound}

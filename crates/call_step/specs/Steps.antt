@@ -4,7 +4,7 @@ use mathlib.Core.List.{List, [], _∷_, _++_, map}
 use Prim.Native.Nat.{ℕ, zero, suc, _+_, _-_, _^_}
 use lib.Dec.{eqb}
 use lib.ListN.{take, replicate}
-use Rattle.table_least.specs.Seek.{leastWithin}
+use Rattle.table_least.specs.LeastKey.{leastWithin}
 use Rattle.call_replies.specs.Replies.{Reply, lowest, unlessRefused}
 use Rattle.call_meaning.specs.Reasons.{wrongLength, notSound, shown}
 use Rattle.call_step.specs.declared.Place.{Place}

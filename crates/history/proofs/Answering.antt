@@ -6,7 +6,7 @@ use Prim.Native.Nat.{ℕ}
 use lib.Dec.{eqb}
 use Rattle.lists.proofs.Tests.{by-test}
 use Rattle.table.specs.Contents.{Contents}
-use Rattle.table_least.specs.Seek.{leastWithin}
+use Rattle.table_least.specs.LeastKey.{leastWithin}
 use Rattle.call_replies.specs.Replies.{unlessRefused}
 use Rattle.call_meaning.specs.Calls.{grown, setUpReply, buildReply, insertReply, deleteReply, lookupReply, rangeReply, rangeOutput, writeReply, writeOutput, readReply}
 use Rattle.call_step.specs.Steps.{endReply, yielded, sought, stepReply, stepPlace}

@@ -14,7 +14,7 @@ use Rattle.table.specs.Contents.{Contents, Valid, newOrder, risingKeys}
 use Rattle.table.specs.Table.{fresh}
 use Rattle.image.specs.Image.{isImage, readImage}
 use Rattle.image.proofs.Judging.{is-image-valid}
-use Rattle.call_sets.specs.Edit.{joined}
+use Rattle.call_sets.specs.Sets.{joined}
 use Rattle.call_replies.specs.Replies.{unlessRefused}
 use Rattle.call_meaning.specs.Reasons.{wrongOrder, zeroKey, lowAboveHigh, notRising, notAnImage, outputTooShort}
 use Rattle.call_meaning.specs.Calls.{rewritten, grown, shrunk, setUpAfter, buildAfter, readAfter, insertAfter, deleteAfter}

@@ -10,7 +10,7 @@ use Rattle.lists.proofs.Tests.{by-test}
 use Rattle.lists.proofs.Membership.{member-keep}
 use Rattle.image.proofs.Reading.{read-of-image}
 use Rattle.image.proofs.Judging.{is-image-says, image-passes}
-use Rattle.call_sets.specs.Edit.{joined, without}
+use Rattle.call_sets.specs.Sets.{joined, without}
 use Rattle.history.specs.Theorems.{Entries}
 
 either-first : (a b c : Bool) → (a || (b || c)) ≡ (b || (a || c))

@@ -10,9 +10,9 @@ use Rattle.priority.specs.Priority.{priorityOf}
 use Rattle.treap.specs.Blocks.{blocksMet}
 use Rattle.table.specs.Contents.{Contents}
 use Rattle.image.specs.Image.{imageOf, readImage}
-use Rattle.call_sets.specs.Edit.{joined, without}
+use Rattle.call_sets.specs.Sets.{joined, without}
 use Rattle.intervals.specs.Intervals.{within}
-use Rattle.table_least.specs.Seek.{leastWithin}
+use Rattle.table_least.specs.LeastKey.{leastWithin}
 use Rattle.call_replies.specs.Replies.{Reply, Reason, lowest, unlessRefused}
 use Rattle.call_meaning.specs.Reasons.{wrongOrder, zeroKey, lowAboveHigh, notRising, notAnImage, outputTooShort}
 use Rattle.call_meaning.specs.Calls.{rankIn, standingIn}

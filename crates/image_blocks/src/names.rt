@@ -11,7 +11,7 @@ const LAST: u64 = 4096;
 
 const POSITIONS: u64 = 4097;
 
-// The level of the block that holds the key at an index.
+// The level of the block that holds the key at an index. Internal to this library's crates: their indices lie within the ranks.
 pub fn level_at(root: u64, rank: &[u64], i: usize) -> u64
     requires { ⌜ (i < length (now rank)) × (getD (now rank) i 0 ≤ mostSlots) ⌝ }
     ensures { λ r. ⌜ r ≡ levelAt root (now (rank .entry)) i ⌝ }
@@ -23,7 +23,7 @@ pub fn level_at(root: u64, rank: &[u64], i: usize) -> u64
     }
 }
 
-// The position of the leader in that block's name.
+// The position of the leader in that block's name. Internal to this library's crates: their indices lie within the leaders.
 pub fn leader_at(root: u64, leader: &[u64], i: usize) -> u64
     requires { ⌜ i < length (now leader) ⌝ }
     ensures { λ r. ⌜ r ≡ leaderAt root (now (leader .entry)) i ⌝ }
@@ -44,7 +44,8 @@ fn block_weight(n: usize, root: u64, rank: &[u64], leader: &[u64], i: usize) -> 
     POSITIONS * level_at(root, rank, i) + (LAST - leader_at(root, leader, i))
 }
 
-// Write at the start of `weights` the weight of the block that holds each key.
+// Write at the start of `weights` the weight of the block that holds each key. Internal to this library's crates: their ranks and leaders
+// are those of a treap of so many keys.
 pub fn weigh(n: usize, root: u64, rank: &[u64], leader: &[u64], weights: &mut [u64])
     requires { ⌜ Ranked n root (now rank) (now leader) ⌝ }
     requires { ⌜ n ≤ length (now weights) ⌝ }

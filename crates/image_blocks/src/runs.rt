@@ -14,7 +14,7 @@ fn weight_of(weights: &[u64], sorted: &[u64], j: usize) -> u64
     weights[sorted[j] as usize]
 }
 
-// Where the run that begins at index `low` of `sorted` ends.
+// Where the run that begins at index `low` of `sorted` ends. Internal to this library's crates: what `sorted` holds are indices of weights.
 pub fn run_end(weights: &[u64], sorted: &[u64], low: usize) -> usize
     requires { ⌜ (low < length (now sorted)) × All (λ i. i < length (now weights)) (now sorted) ⌝ }
     ensures { λ r. ⌜ RunEnds (now (weights .entry)) (now (sorted .entry)) low r ⌝ }
@@ -30,7 +30,7 @@ pub fn run_end(weights: &[u64], sorted: &[u64], low: usize) -> usize
     high
 }
 
-// How many runs there are.
+// How many runs there are. Internal to this library's crates, as `run_end` is.
 pub fn count_runs(weights: &[u64], sorted: &[u64]) -> usize
     requires { ⌜ All (λ i. i < length (now weights)) (now sorted) ⌝ }
     ensures { λ r. ⌜ r ≡ length (runs (sameWeight (now (weights .entry))) (now (sorted .entry))) ⌝ }

@@ -33,7 +33,8 @@ fn is_marked(records: &[u8], at: usize) -> bool
     records[at + 1] == b'N'
 }
 
-// Whether each of a block's node records begins with its mark; where they all do, their keys are in `keys` from index `from` on.
+// Whether each of a block's node records begins with its mark; where they all do, their keys are in `keys` from index `from` on; where
+// one does not, what `keys` holds is left open.
 fn check_records(records: &[u8], held: usize, keys: &mut [u64], from: usize) -> bool
     requires { ⌜ (nodeBytes * held ≤ length (now records)) × (from + held ≤ length (now keys)) ⌝ }
     ensures { λ r. ⌜ r ≡ marked held (now (records .entry)) ⌝ }
@@ -50,7 +51,8 @@ fn check_records(records: &[u8], held: usize, keys: &mut [u64], from: usize) -> 
 }
 
 // Write at the start of `keys` the keys of an image's node records, in their order; how many there are. Broken where a record does
-// not lie within the bytes or has no mark, or `keys` is too short: what `keys` then holds is left open.
+// not lie within the bytes or has no mark, or `keys` is too short: what `keys` then holds is left open. Internal to this library's crates,
+// though it takes any bytes.
 pub fn collect(image: &[u8], keys: &mut [u64]) -> Collected
     ensures { λ r. ⌜ r ≡ collected (length (now (keys .entry))) (now (image .entry)) ⌝ }
     ensures { λ _. ⌜ (readable (length (now (keys .entry))) (now (image .entry)) ≡ true → now (keys .exit) ≡ overwrite (now (keys .entry)) 0 (keysOf (now (image .entry)))) ⌝ }

@@ -25,7 +25,7 @@ pub enum Recognized {
 }
 
 // Recognize an image, with lists to work in; where it is one, its keys, rising, are then at the start of `keys`. What the other lists
-// then hold is left open.
+// then hold, and `keys` where it is none, is left open.
 fn recognize_in(
     image: &[u8],
     held: &mut [u64],

@@ -40,7 +40,7 @@ fn put_mark(output: &mut [u8], at: usize, kind: u8)
     output[at + 1] = kind;
 }
 
-// Write the header record. Internal to this library's crates, as the other two are.
+// Write the header record. Internal to this library's crates: their outputs have room for it.
 pub fn put_header(output: &mut [u8], at: usize, order: u64, size: u64, blocks: u64, root: u64)
     requires { ⌜ at + headerBytes ≤ length (now output) ⌝ }
     ensures { λ _. ⌜ now (output .exit) ≡ overwrite (now (output .entry)) at (headerRecord order size blocks root) ⌝ }
@@ -52,7 +52,8 @@ pub fn put_header(output: &mut [u8], at: usize, order: u64, size: u64, blocks: u
     image_fields::put(output, at + ROOT_AT, KEY_BYTES, root);
 }
 
-// Write the record of a block: its leader key, its level and how many keys it holds.
+// Write the record of a block: its leader key, its level and how many keys it holds. Internal to this library's crates: their outputs
+// have room for it.
 pub fn put_block(output: &mut [u8], at: usize, leader: u64, level: u64, held: u64)
     requires { ⌜ at + blockBytes ≤ length (now output) ⌝ }
     ensures { λ _. ⌜ now (output .exit) ≡ overwrite (now (output .entry)) at (blockRecord leader level held) ⌝ }
@@ -63,7 +64,7 @@ pub fn put_block(output: &mut [u8], at: usize, leader: u64, level: u64, held: u6
     image_fields::put(output, at + HELD_AT, COUNT_BYTES, held);
 }
 
-// Write the record of a key: the key, its links, its rank and its count.
+// Write the record of a key: the key, its links, its rank and its count. Internal to this library's crates: their outputs have room for it.
 pub fn put_node(
     output: &mut [u8],
     at: usize,

@@ -56,7 +56,8 @@ pub fn write(
     );
 }
 
-// Whether the table is the one of the order and the keys. Internal, as `write` is.
+// Whether the table is the one of the order and the keys. Internal, as `write` is: whatever the answer, what the room to work in then holds
+// is left open.
 pub fn compare(
     order: u64,
     keys: &[u64],

@@ -48,8 +48,9 @@ fn conclude(same: bool, n: usize) -> Verdict
     }
 }
 
-// Examine a table of `many` slots; where it is sound, its keys, rising, are then at the start of `keys`. Internal to this
-// library's crates: the other lists are room to work in, as long as the table has slots; what they then hold is left open.
+// Examine a table of `many` slots; where it is sound, its keys, rising, are then at the start of `keys`; where it is not, what `keys`
+// holds is left open. Internal to this library's crates: the other lists are room to work in, as long as the table has slots; what they then hold
+// is left open.
 pub fn examine(
     table: &[u64],
     many: usize,

@@ -135,7 +135,7 @@ fn examine_large(table: &[u64], many: usize, keys: &mut [u64]) -> Verdict
 }
 
 // Examine a table, with no more room than tables of about its size need; where it is sound, its keys, rising, are then at the
-// start of `keys`. Internal to this library's crates.
+// start of `keys`; where it is not, what `keys` holds is left open. Internal to this library's crates.
 pub fn examine_sized(table: &[u64], many: usize, keys: &mut [u64]) -> Verdict
     requires { ⌜ (0 < many) × (many ≤ mostSlots) × (length (now table) ≡ tableWords many) × (many ≤ length (now keys)) ⌝ }
     ensures { λ r. ⌜ r ≡ verdictOf many (now (table .entry)) ⌝ }

@@ -17,7 +17,7 @@ use Rattle.lists.proofs.UpFrom.{upFrom-end}
 use Rattle.table.specs.Layout.{keyIn, slotKeys}
 use Rattle.table.specs.Table.{heldKeys, contentsOf}
 use Rattle.table.proofs.Soundness.{shown-nonzero}
-use Rattle.table_least.specs.Seek.{leastWithin, lesser}
+use Rattle.table_least.specs.LeastKey.{leastWithin, lesser}
 
 -- ---- a key put in its place among others
 -- what the first that passes becomes

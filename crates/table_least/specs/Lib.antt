@@ -1,2 +1,2 @@
 -- The definitions that the contracts of `table_least` cite.
-pub mod Seek
+pub mod LeastKey

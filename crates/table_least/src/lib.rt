@@ -4,7 +4,7 @@ ghost use Prim.Native.Nat.{_≤_};
 ghost use lib.ListN.{length};
 ghost use Rattle.table.specs.Layout.{tableWords};
 ghost use Rattle.table.specs.Table.{contentsOf};
-ghost use Rattle.table_least.specs.Seek.{leastWithin, lesser};
+ghost use Rattle.table_least.specs.LeastKey.{leastWithin, lesser};
 use table::HEADER_WORDS;
 use table::KEY_FIELD;
 use table::SLOT_WORDS;

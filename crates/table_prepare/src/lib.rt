@@ -11,7 +11,8 @@ ghost use Rattle.treap_columns.specs.Positions.{positions, weightAt, InOrder};
 ghost use Rattle.table_prepare.specs.Prepared.{Filled, Keys, Prepared};
 
 // Write at the start of `weights` the priorities of the keys, and at the start of `ranking` their positions, less one, by
-// falling priority. What `spare` then holds is left open. Internal to this library's crates.
+// falling priority. What `spare` then holds, and the other two lists past as many words as there are keys, is left open. Internal to
+// this library's crates.
 pub fn prioritize(keys: &[u64], weights: &mut [u64], ranking: &mut [u64], spare: &mut [u64])
     requires { ⌜ (length (now keys) ≤ length (now weights)) × (length (now keys) ≤ length (now ranking)) × (length (now keys) ≤ length (now spare)) ⌝ }
     ensures { λ _. ⌜ take (length (now (keys .entry))) (now (weights .exit)) ≡ map priorityOf (now (keys .entry)) ⌝ }
@@ -21,7 +22,8 @@ pub fn prioritize(keys: &[u64], weights: &mut [u64], ranking: &mut [u64], spare:
     sorting::by_weight(weights, keys.len(), ranking, spare);
 }
 
-// Fill the columns of the positions of `weights`; the position of the root. Internal to this library's crates.
+// Fill the columns of the positions of `weights`; the position of the root. What the columns hold past as many words as there are
+// positions is left open. Internal to this library's crates.
 pub fn fill(
     weights: &[u64],
     order: u64,
@@ -46,7 +48,8 @@ pub fn fill(
     root
 }
 
-// Make of the keys all that a table is written from; the position of the root. Internal to this library's crates.
+// Make of the keys all that a table is written from; the position of the root. What `weights` and `ranking` then hold, and the columns past
+// as many words as there are keys, is left open. Internal to this library's crates.
 pub fn prepare(
     order: u64,
     keys: &[u64],

@@ -46,7 +46,7 @@ pub fn decimal_length(n: u64) -> usize
     many
 }
 
-// Write a number in base ten, without leading zeros.
+// Write a number in base ten, without leading zeros. Internal.
 pub fn put_decimal(output: &mut [u8], at: usize, n: u64) -> usize
     requires { ⌜ at + length (decimal n) ≤ length (now output) ⌝ }
     ensures { λ r. ⌜ Written (now (output .entry)) at (decimal n) (now (output .exit)) r ⌝ }
@@ -54,7 +54,7 @@ pub fn put_decimal(output: &mut [u8], at: usize, n: u64) -> usize
     put_digits(output, at, 10, decimal_length(n), n)
 }
 
-// Write a number as sixteen hexadecimal digits, letters capital.
+// Write a number as sixteen hexadecimal digits, letters capital. Internal.
 pub fn put_hexadecimal(output: &mut [u8], at: usize, n: u64) -> usize
     requires { ⌜ at + length (hexadecimal n) ≤ length (now output) ⌝ }
     ensures { λ r. ⌜ Written (now (output .entry)) at (hexadecimal n) (now (output .exit)) r ⌝ }
@@ -62,7 +62,7 @@ pub fn put_hexadecimal(output: &mut [u8], at: usize, n: u64) -> usize
     put_digits(output, at, 16, HEXADECIMAL_DIGITS, n)
 }
 
-// Write bytes as they are.
+// Write bytes as they are. Internal.
 pub fn put_bytes(output: &mut [u8], at: usize, text: &[u8]) -> usize
     requires { ⌜ at + length (now text) ≤ length (now output) ⌝ }
     ensures { λ r. ⌜ Written (now (output .entry)) at (now (text .entry)) (now (output .exit)) r ⌝ }

@@ -33,7 +33,7 @@ fn put_key(output: &mut [u8], at: usize, label: &[u8], key: u64) -> usize
     text::put_hexadecimal(output, end, key)
 }
 
-// Write the line for the header.
+// Write the line for the header. Internal.
 pub fn put_header_line(
     output: &mut [u8],
     at: usize,
@@ -54,7 +54,7 @@ pub fn put_header_line(
     text::put_bytes(output, rooted, b"\n")
 }
 
-// Write the line for a block.
+// Write the line for a block. Internal.
 pub fn put_block_line(output: &mut [u8], at: usize, leader: u64, level: u64, keys: u64) -> usize
     requires { ⌜ at + length (blockLine leader level keys) ≤ length (now output) ⌝ }
     ensures { λ r. ⌜ Written (now (output .entry)) at (blockLine leader level keys) (now (output .exit)) r ⌝ }
@@ -65,7 +65,7 @@ pub fn put_block_line(output: &mut [u8], at: usize, leader: u64, level: u64, key
     text::put_bytes(output, sized, b"\n")
 }
 
-// Write the line for a key.
+// Write the line for a key. Internal.
 pub fn put_key_line(output: &mut [u8], at: usize, key: u64, rank: u64, count: u64) -> usize
     requires { ⌜ at + length (keyLine key rank count) ≤ length (now output) ⌝ }
     ensures { λ r. ⌜ Written (now (output .entry)) at (keyLine key rank count) (now (output .exit)) r ⌝ }

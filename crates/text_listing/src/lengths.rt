@@ -91,7 +91,7 @@ fn header(image: &[u8]) -> usize
     text_lines::header_length(order, keys, blocks, fill_of(order, keys, blocks), root)
 }
 
-// The length of all lines.
+// The length of all lines. Internal to this crate: the bytes have the records that their header says.
 pub fn records(image: &[u8]) -> usize
     requires { ⌜ HasRecords (now image) ⌝ }
     requires { ⌜ length (now image) ≤ mostBytes ⌝ }

@@ -10,7 +10,7 @@ use lib.Dec.{eqb}
 use lib.ListN.{length, getD}
 use borrow.Author.Tests.{eq-eqb, ne-eqb}
 use Rattle.lists.proofs.Copying.{kept, kept-few, Copied, copied-none, copied-few, copied-all, copied-ahead, copied-size, copied-more, copied-same, counted-all}
-use Rattle.call_sets.specs.Edit.{without}
+use Rattle.call_sets.specs.Sets.{without}
 use borrow.Author.Needs.{needs}
 use Rattle.call_sets.proofs.take_out.Statement.{statement}
 use Rattle.call_sets.proofs.take_out.Tie as tie

@@ -10,7 +10,7 @@ use Rattle.table.specs.Table.{contentsOf}
 use Rattle.table_limits.specs.Lengths.{slotsFor}
 use Rattle.table_judge.specs.Judge.{isSound}
 use Rattle.table_limits.proofs.Lengths.{slots-for-some}
-use Rattle.table_least.specs.Seek.{leastWithin}
+use Rattle.table_least.specs.LeastKey.{leastWithin}
 use Rattle.call_step.proofs.Moving.{refused-length, refused-table, was-done, at-the-end, at-a-key}
 use borrow.Author.Needs.{needs}
 use Rattle.call_step.proofs.step_at.Statement.{statement}

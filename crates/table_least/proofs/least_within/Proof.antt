@@ -5,7 +5,7 @@ use native.Mathlib.Numerals.{add-one}
 use native.Mathlib.Omega.{arith}
 use Rattle.table.specs.Layout.{keyIn}
 use Rattle.table.specs.Table.{contentsOf}
-use Rattle.table_least.specs.Seek.{leastWithin, lesser}
+use Rattle.table_least.specs.LeastKey.{leastWithin, lesser}
 use Rattle.table_least.proofs.Least.{least-none, least-more}
 use borrow.Author.Needs.{needs}
 use Rattle.table_least.proofs.least_within.Statement.{statement}
