@@ -78,7 +78,7 @@ pub extern "C" fn btreap_step(table: &[u64], next: u64, high: u64, done: u64) ->
     ensures { λ r. ⌜ r .high ≡ stepPlace (now (table .entry)) (placeGiven next high done) .high ⌝ }
     ensures { λ r. ⌜ r .done ≡ markAfter done (stepPlace (now (table .entry)) (placeGiven next high done) .done) ⌝ }
 {
-    let moved = call_step::step_at(table, next, high, done != 0);
+    let moved = index::step_at(table, next, high, done != 0);
     let answer = moved.answer;
     let place = moved.place;
     let mark = btreap_structs::mark_after(done, place.done);
@@ -91,7 +91,7 @@ pub extern "C" fn btreap_write(table: &[u64], output: &mut [u8]) -> SizedReply
     ensures { λ r. ⌜ sized r ≡ writeReply (now (table .entry)) (now (output .entry)) ⌝ }
     ensures { λ _. ⌜ now (output .exit) ≡ writeOutput (now (table .entry)) (now (output .entry)) ⌝ }
 {
-    let answer = call_image::write(table, output);
+    let answer = index::write(table, output);
     btreap_structs::written(answer)
 }
 
@@ -101,7 +101,7 @@ pub extern "C" fn btreap_read(table: &mut [u64], image: &[u8]) -> u64
     ensures { λ r. ⌜ r ≡ readReply (now (table .entry)) (now (image .entry)) .refusal ⌝ }
     ensures { λ _. ⌜ now (table .exit) ≡ readAfter (now (table .entry)) (now (image .entry)) ⌝ }
 {
-    let answer = call_image::read(table, image);
+    let answer = index::read(table, image);
     btreap_structs::read_back(answer)
 }
 
@@ -111,6 +111,6 @@ pub extern "C" fn btreap_list(image: &[u8], output: &mut [u8]) -> SizedReply
     ensures { λ r. ⌜ sized r ≡ listReply (now (image .entry)) (now (output .entry)) ⌝ }
     ensures { λ _. ⌜ now (output .exit) ≡ listOutput (now (image .entry)) (now (output .entry)) ⌝ }
 {
-    let answer = call_list::list(image, output);
+    let answer = index::list(image, output);
     btreap_structs::listed(answer)
 }

@@ -1,13 +1,22 @@
-// The calls of the index. Each takes any words and any numbers; what it refuses it leaves as it was.
+// The calls of the index. Each takes any words, numbers and bytes; what it refuses it leaves as it was.
 
-// Make a table: the blank one of an order, or that of an order and a strictly rising list of keys.
+// Make a table: the blank one of an order, that of an order and a strictly rising list of keys, or that of an image.
 pub use call_build::build;
 pub use call_build::set_up;
+pub use call_image::read;
 
 // Change a table: delete a key, or insert one.
 pub use call_delete::delete;
 pub use call_insert::insert;
 
-// Read a table: the keys from one to another, or all about one key.
+// Ask a table: all about one key, the keys from one to another, or these key by key, from a place that moves on.
 pub use call_lookup::look_up;
 pub use call_range::range;
+pub use call_step::Moved;
+pub use call_step::Place;
+pub use call_step::step;
+pub use call_step::step_at;
+
+// Write a table's image; list an image.
+pub use call_image::write;
+pub use call_list::list;

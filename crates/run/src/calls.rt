@@ -14,8 +14,8 @@ use call_replies::Refusal;
 use call_replies::SetUp;
 use call_replies::Stepped;
 use call_replies::Written;
-use call_step::Moved;
-use call_step::Place;
+use index::Moved;
+use index::Place;
 
 pub fn say(text: &[u8]) {
     io::write_all(1, text);
@@ -141,7 +141,7 @@ pub fn range(table: &[u64], low: u64, high: u64) {
 
 pub fn write(table: &[u64], image: &mut [u8]) {
     say(b"write:");
-    let answer = call_image::write(table, image);
+    let answer = index::write(table, image);
     match answer {
         Written::Bytes(n) => {
             tell(0);
@@ -154,7 +154,7 @@ pub fn write(table: &[u64], image: &mut [u8]) {
 
 pub fn read(table: &mut [u64], image: &[u8]) {
     say(b"read:");
-    let answer = call_image::read(table, image);
+    let answer = index::read(table, image);
     match answer {
         ReadBack::Done => tell(0),
         ReadBack::Refused(reason) => refused(reason),
@@ -165,7 +165,7 @@ pub fn read(table: &mut [u64], image: &[u8]) {
 // The listing of an image, with the text after the line.
 pub fn list(image: &[u8], output: &mut [u8]) {
     say(b"list:");
-    let answer = call_list::list(image, output);
+    let answer = index::list(image, output);
     match answer {
         Listed::Bytes(n) => {
             tell(0);
@@ -186,7 +186,7 @@ fn step_lent(table: &[u64], place: Place) -> Moved
     ensures { λ r. ⌜ r .place ≡ stepPlace (now (table .entry)) place ⌝ }
 {
     let mut lent = place;
-    let answer = call_step::step(table, &mut lent);
+    let answer = index::step(table, &mut lent);
     Moved {
         answer,
         place: lent,

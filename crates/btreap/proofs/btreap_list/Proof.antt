@@ -6,7 +6,7 @@ use Rattle.btreap.proofs.btreap_list.Tie as tie
 use Rattle.btreap.proofs.btreap_list.Reads as reads
 use Rattle.btreap.proofs.btreap_list.Lts as lts
 use Rattle.btreap_structs.proofs.listed.Reads as listed-reads
-use Rattle.call_list.proofs.list.Reads as list-reads
+use Rattle.index.proofs.list.Reads as list-reads
 
 list-requires : tie.Need-list-requires
 list-requires c κs = search needs

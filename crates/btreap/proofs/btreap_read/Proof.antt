@@ -6,7 +6,7 @@ use Rattle.btreap.proofs.btreap_read.Tie as tie
 use Rattle.btreap.proofs.btreap_read.Reads as reads
 use Rattle.btreap.proofs.btreap_read.Lts as lts
 use Rattle.btreap_structs.proofs.read_back.Reads as read-back-reads
-use Rattle.call_image.proofs.read.Reads as read-reads
+use Rattle.index.proofs.read.Reads as read-reads
 
 read-requires : tie.Need-read-requires
 read-requires c κs = search needs

@@ -9,7 +9,7 @@ use Rattle.btreap.proofs.btreap_step.Reads as reads
 use Rattle.btreap.proofs.btreap_step.Lts as lts
 use Rattle.btreap_structs.proofs.mark_after.Reads as mark-after-reads
 use Rattle.btreap_structs.proofs.stepped.Reads as stepped-reads
-use Rattle.call_step.proofs.step_at.Reads as step-at-reads
+use Rattle.index.proofs.step_at.Reads as step-at-reads
 
 step-at-requires : tie.Need-step-at-requires
 step-at-requires c κs = search needs

@@ -6,7 +6,7 @@ use Rattle.btreap.proofs.btreap_write.Tie as tie
 use Rattle.btreap.proofs.btreap_write.Reads as reads
 use Rattle.btreap.proofs.btreap_write.Lts as lts
 use Rattle.btreap_structs.proofs.written.Reads as written-reads
-use Rattle.call_image.proofs.write.Reads as write-reads
+use Rattle.index.proofs.write.Reads as write-reads
 
 write-requires : tie.Need-write-requires
 write-requires c κs = search needs
