@@ -1,4 +1,3 @@
 -- Laws of set-up and build, one subject a file.
-pub mod Blank
 pub mod SettingUp
 pub mod Building

@@ -16,7 +16,7 @@ use Rattle.call_replies.specs.declared.SetUp.{SetUp}
 use Rattle.call_replies.specs.declared.SetUp.the-variants.{Done, Refused}
 use Rattle.call_meaning.specs.Reasons.{wrongLength, wrongOrder}
 use Rattle.call_meaning.specs.Calls.{rewritten, setUpRefusal, setUpReply, setUpAfter}
-use Rattle.call_build.proofs.Blank.{blank-words}
+use Rattle.table.proofs.Blank.{blank-words}
 
 module _ (words : List ℕ) (order : ℕ) where
   -- What a set-up that answers so and leaves these words meets.

@@ -1,3 +1,3 @@
 -- Laws that the calls share, one subject a file.
 pub mod Judged
-pub mod Examined
+pub mod Shows

@@ -1,2 +1,3 @@
 -- Laws of changing a list in place, one subject a file.
 pub mod Shifting
+pub mod Members

@@ -1,5 +1,4 @@
 -- Laws of steps, one subject a file.
 pub mod Moving
-pub mod Least
 pub mod Stepping
 pub mod TwoFacts

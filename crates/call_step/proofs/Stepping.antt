@@ -22,7 +22,7 @@ use Rattle.call_meaning.specs.Reasons.{shown}
 use Rattle.call_step.specs.declared.Place.{Place}
 use Rattle.call_step.specs.Steps.{greatestKey, placeOf, placeFrom, wholePlace, spentPlace, keyReply, endReply, stepRefusal, sought, yielded, passed, moved, stepReply, stepPlace, stepsFrom, keysThenEnd}
 use Rattle.call_step.proofs.Moving.{accepted}
-use Rattle.call_step.proofs.Least.{least-none, least-first, within-all, above, within-after}
+use Rattle.table_least.proofs.LeastOfRange.{least-none, least-first, within-all, above, within-after}
 
 -- ---- end for ever
 ends : (n m : ℕ) → n ≤ m → take n (replicate m endReply) ≡ replicate n endReply

@@ -19,8 +19,8 @@ use Rattle.call_meaning.specs.Calls.{writeRefusal, writeReply, writeOutput}
 use Rattle.history.specs.Call.{writing}
 use Rattle.history.specs.Book.{reasons, refusalBy}
 use Rattle.history.specs.Theorems.{Agree, AgreeAsLists, WritingAccepted, writtenImage, ImageWritten, ImagesAgree}
-use Rattle.history.proofs.Refusals.{none-applies}
-use Rattle.history.proofs.Shows.{sound-shows}
+use Rattle.call_replies.proofs.Refusals.{none-applies}
+use Rattle.call_meaning.proofs.Shows.{sound-shows}
 use Rattle.history.proofs.Refused.{writing-refused}
 
 -- ---- order and set

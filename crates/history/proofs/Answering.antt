@@ -14,8 +14,8 @@ use Rattle.call_step.specs.declared.Place.{Place}
 use Rattle.history.specs.Call.{Call, setUp, build, reading, insert, delete, lookup, range, writing, step, reply, output}
 use Rattle.history.specs.Book.{refusalBy, replyBy, outputBy, placeBy}
 use Rattle.history.specs.Theorems.{Answers}
-use Rattle.history.proofs.Refusals.{both-same}
-use Rattle.history.proofs.Shows.{Shows}
+use Rattle.call_replies.proofs.Refusals.{both-same}
+use Rattle.call_meaning.proofs.Shows.{Shows}
 use Rattle.history.proofs.Refused.{set-up-refused, build-refused, reading-refused, insert-refused, delete-refused, lookup-refused, range-refused, writing-refused, step-accepted}
 
 -- a step that is not turned down gives no refusal's number

@@ -3,7 +3,7 @@ use mathlib.Core.Path.{sym, ap, _∙_}
 use Rattle.table.specs.Table.{fresh}
 use Rattle.table.proofs.Reading.{fresh-unique}
 use Rattle.history.specs.Theorems.{TablesAgree, HistoriesImagesAgree, HistoryIndependence, AnswersFromBook, tableAfter, bookAfter}
-use Rattle.history.proofs.Shows.{sound-shows}
+use Rattle.call_meaning.proofs.Shows.{sound-shows}
 use Rattle.history.proofs.Answering.{answers}
 use Rattle.history.proofs.Running.{table-from-book, sound-after}
 use Rattle.history.proofs.Agreeing.{same-agree, agree-same, image-written, images-agree}

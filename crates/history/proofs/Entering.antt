@@ -22,8 +22,8 @@ use Rattle.call_changes.proofs.Sets.{joined-length, joined-valid, without-valid
 use Rattle.table_decode.proofs.RisingKeys.{rising-says}
 use Rattle.history.specs.Call.{Call, setUp, build, reading, insert, delete, lookup, range, writing, step, Lent, run}
 use Rattle.history.specs.Book.{blank, listed, withKey, withoutKey, entered, reasons, refusalBy, note}
-use Rattle.history.proofs.Refusals.{none-applies, refused-through, either-way, both-same}
-use Rattle.history.proofs.Shows.{Shows}
+use Rattle.call_replies.proofs.Refusals.{none-applies, refused-through, either-way, both-same}
+use Rattle.call_meaning.proofs.Shows.{Shows}
 use Rattle.history.proofs.Refused.{set-up-refused, build-refused, reading-refused, insert-refused, delete-refused}
 
 -- ---- the table

@@ -1,6 +1,4 @@
 -- Laws of histories, one subject a file; `Claims` has demands 3 and 2 whole.
-pub mod Refusals
-pub mod Shows
 pub mod Refused
 pub mod Answering
 pub mod Entering

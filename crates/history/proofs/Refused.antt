@@ -8,7 +8,7 @@ use Rattle.call_meaning.specs.Calls.{grown, setUpRefusal, buildRefusal, insertR
 use Rattle.call_step.specs.Steps.{stepRefusal}
 use Rattle.history.specs.Call.{setUp, build, reading, insert, delete, lookup, range, writing}
 use Rattle.history.specs.Book.{refusalBy}
-use Rattle.history.proofs.Shows.{Shows}
+use Rattle.call_meaning.proofs.Shows.{Shows}
 
 module _ (many : ℕ) (words : List ℕ) (book : Contents) (table : Shows many words book) where
   pub set-up-refused : (order : ℕ) → setUpRefusal words order ≡ refusalBy many (setUp order) book

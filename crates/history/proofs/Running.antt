@@ -16,8 +16,8 @@ use Rattle.call_meaning.proofs.Judged.{slots-here, right-length}
 use Rattle.history.specs.Call.{Call, setUp, Lent, run, runs, History, callsOf}
 use Rattle.history.specs.Book.{blank, refusalBy, note, notes}
 use Rattle.history.specs.Theorems.{Table, TableFromBook, FirstAccepted, AnyStart, tableAfter, bookAfter}
-use Rattle.history.proofs.Refusals.{none-applies}
-use Rattle.history.proofs.Shows.{shows}
+use Rattle.call_replies.proofs.Refusals.{none-applies}
+use Rattle.call_meaning.proofs.Shows.{shows}
 use Rattle.history.proofs.Entering.{run-notes, blank-valid, note-valid}
 
 -- ---- calls after the first

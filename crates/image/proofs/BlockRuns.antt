@@ -13,7 +13,7 @@ use Rattle.lists.proofs.FlatMap.{flatMap-mapped}
 use Rattle.lists.proofs.Runs.{Alike, Apart, AllApart, NotFirst, runs-of-parts, runs-next}
 use Rattle.treap.specs.Blocks.{Block, blocks}
 use Rattle.treap_structure.proofs.Blocks.{blockLevel}
-use Rattle.image.proofs.Precedence.{agree-when, agree-similar, agree-differs}
+use Rattle.lists.proofs.Precedence.{agree-when, agree-similar, agree-differs}
 use Rattle.image.proofs.ImageOrder.{blockLeader, before, sameBlock, Named, NameBefore, blocks-named, blocks-ordered, blocks-some, image-order}
 use Rattle.image.proofs.ImageOrder.NameBefore.{higher, lesser}
 

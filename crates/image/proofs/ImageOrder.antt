@@ -21,8 +21,8 @@ use Rattle.treap.specs.Blocks.{Block, rootRank, rootBlock, block, blocksOfLevel
 use Rattle.treap_structure.proofs.Blocks.{blockLevel, held-by-root, held-by-block, level-of-root, level-of-other, level-under, Formed, blocks-formed, Holds, blocks-hold, holding-is}
 use Rattle.treap_structure.proofs.Blocks.Formed.{at-root, below}
 use Rattle.treap_structure.proofs.BlockSizes.{led-by-top}
-use Rattle.image.proofs.Precedence.{precedes, agree, precedes-when, precedes-trans, precedes-one-way, precedes-total}
-use Rattle.image.proofs.Precedence.Earlier.{by-first, by-second, by-itself}
+use Rattle.lists.proofs.Precedence.{precedes, agree, precedes-when, precedes-trans, precedes-one-way, precedes-total}
+use Rattle.lists.proofs.Precedence.Earlier.{by-first, by-second, by-itself}
 
 -- The leader in the name of the block that holds a key: the root for the root block, else the key's leader.
 unfoldable pub blockLeader : ℕ → (ℕ → ℕ) → List ℕ → ℕ → ℕ

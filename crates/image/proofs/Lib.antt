@@ -1,5 +1,4 @@
 -- Laws of the image, one subject a file.
-pub mod Precedence
 pub mod ImageOrder
 pub mod BlockRuns
 pub mod Weights

@@ -10,8 +10,8 @@ use lib.Dec.{eqb, ltb}
 use borrow.Author.Tests.{ltb-true, lt-ltb, le-ltb, eq-eqb, ne-eqb}
 use Rattle.lists.proofs.Tests.{by-test, same-test, or-true-cases, or-true-left, or-true-right, or-both-false, and-right, and-both, Compared, compared}
 use Rattle.lists.proofs.Tests.Compared.{less, same, more}
-use Rattle.image.proofs.Precedence.{precedes, agree, Earlier, precedes-when, precedes-says, agree-when, agree-differs}
-use Rattle.image.proofs.Precedence.Earlier.{by-first, by-second, by-itself}
+use Rattle.lists.proofs.Precedence.{precedes, agree, Earlier, precedes-when, precedes-says, agree-when, agree-differs}
+use Rattle.lists.proofs.Precedence.Earlier.{by-first, by-second, by-itself}
 
 -- One number for a level and a place: the higher level weighs more, and of one level the earlier place.
 unfoldable pub weigh : ℕ → ℕ → ℕ → ℕ

@@ -10,7 +10,7 @@ use borrow.Author.Tests.{lt-ltb, le-ltb, eq-eqb, ne-eqb}
 use Rattle.lists.specs.Lists.{All, joinRun, runs}
 use Rattle.lists.proofs.Tests.{Compared, compared}
 use Rattle.lists.proofs.Tests.Compared.{less, same, more}
-use Rattle.image.proofs.Precedence.{precedes, agree}
+use Rattle.lists.proofs.Precedence.{precedes, agree}
 
 -- ---- the elements of runs are those of the list, and no run is empty
 module _ (alike : ℕ → ℕ → Bool) (P : ℕ → Type 0) where

@@ -17,3 +17,6 @@ pub mod Start
 pub mod Copying
 pub mod Runs
 pub mod RunEnds
+pub mod Changes
+pub mod Ordered
+pub mod Precedence

@@ -3,3 +3,4 @@ pub mod Words
 pub mod Held
 pub mod Reading
 pub mod Soundness
+pub mod Blank

@@ -1,5 +1,4 @@
 -- Laws of the way down, one subject a file.
 pub mod Standings
-pub mod Changes
 pub mod Descent
 pub mod WayDown

@@ -26,7 +26,7 @@ use Rattle.table.specs.Contents.{Contents, tableOrder, IsKey, Valid}
 use Rattle.table_descend.specs.Lookup.{standingOf, lookedUp}
 use Rattle.table_entries.specs.Steps.{nextKey}
 use Rattle.table_descend.specs.declared.Looked.the-variants.{Held, Absent}
-use Rattle.table_descend.proofs.Changes.{changes, changes-same, Counted, counted-on, counted-most, NeverRising, changes-count}
+use Rattle.lists.proofs.Changes.{changes, changes-same, Counted, counted-on, counted-most, NeverRising, changes-count}
 use Rattle.table_descend.proofs.Descent.{root-subtree, zero-subtree, side, root-in-tree, path-begins, path-here, path-on, side-smaller, member-on, side-again, next-is-side}
 
 -- The subtree in which the search goes on from a key; none from zero, no key.

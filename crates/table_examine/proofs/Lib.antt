@@ -1,2 +1,3 @@
 -- Laws of examining.
 pub mod Verdicts
+pub mod Examined

@@ -1,2 +1,3 @@
 -- Laws of seeking, one subject a file.
 pub mod Least
+pub mod LeastOfRange

@@ -1,7 +1,6 @@
 -- Lemmas of the columns over plain lists and trees.
 pub mod Ordering
 pub mod Filled
-pub mod Ordered
 pub mod Children
 pub mod PositionTree
 pub mod Reading

@@ -19,7 +19,7 @@ use Rattle.treap_structure.proofs.Outranking.{outranks-one-way}
 use Rattle.treap_structure.proofs.Shape.{size, length-keys, Good, treap-keys, treap-good}
 use Rattle.treap_columns.specs.Positions.{positions, weightAt, InOrder}
 use Rattle.treap_columns.proofs.Children.{Positive, ChildOf, child-member, child-outranked, parent-of}
-use Rattle.treap_columns.proofs.Ordered.{pairwise-at, after-place, before-place}
+use Rattle.lists.proofs.Ordered.{pairwise-at, after-place, before-place}
 
 -- The treap of the positions of the weights.
 abbrev pub treeOf : List ℕ → Tree

@@ -14,7 +14,7 @@ use Rattle.table.specs.Table.{fresh, contentsOf}
 use Rattle.table.proofs.Soundness.{WordSized, sound-valid}
 use Rattle.table_examine.proofs.Verdicts.{told-false}
 use Rattle.call_sets.specs.Sets.{without}
-use Rattle.call_meaning.proofs.Examined.{Examined, examined}
+use Rattle.table_examine.proofs.Examined.{Examined, examined}
 use Rattle.table_prepare.proofs.Writable.{valid-keys}
 use Rattle.call_changes.proofs.Sets.{without-valid}
 use Rattle.call_changes.proofs.Written.{ranked, written-with, writable-with}

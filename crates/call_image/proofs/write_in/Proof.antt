@@ -6,7 +6,7 @@ use native.Mathlib.Omega.{arith}
 use lib.ListN.{length, take}
 use lib.Seq.{length-take-le}
 use Rattle.table_examine.proofs.Verdicts.{told-false}
-use Rattle.call_meaning.proofs.Examined.{Examined, examined, examined-writable}
+use Rattle.table_examine.proofs.Examined.{Examined, examined, examined-writable}
 use Rattle.call_image.proofs.Imaging.{refused-table, refused-short, accepted}
 use borrow.Author.Needs.{needs}
 use Rattle.call_image.proofs.write_in.Statement.{statement}

@@ -14,7 +14,7 @@ use Rattle.table.proofs.Words.{fresh-length}
 use Rattle.table.proofs.Soundness.{WordSized, sound-valid}
 use Rattle.table_examine.proofs.Verdicts.{told-false}
 use Rattle.call_sets.specs.Sets.{joined}
-use Rattle.call_meaning.proofs.Examined.{Examined, examined}
+use Rattle.table_examine.proofs.Examined.{Examined, examined}
 use Rattle.table_prepare.proofs.Writable.{valid-keys}
 use Rattle.call_changes.proofs.Sets.{joined-length, joined-member, joined-valid}
 use Rattle.call_changes.proofs.Written.{sound-again, shows, ranked, written-with, writable-with}

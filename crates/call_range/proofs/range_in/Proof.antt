@@ -6,7 +6,7 @@ use native.Mathlib.Omega.{arith}
 use lib.ListN.{length, take}
 use Rattle.table_examine.proofs.Verdicts.{told-false}
 use Rattle.intervals.specs.Intervals.{within}
-use Rattle.call_meaning.proofs.Examined.{Examined, examined}
+use Rattle.table_examine.proofs.Examined.{Examined, examined}
 use Rattle.call_range.proofs.Ranging.{refused-table, refused-short, accepted}
 use borrow.Author.Needs.{needs}
 use Rattle.call_range.proofs.range_in.Statement.{statement}

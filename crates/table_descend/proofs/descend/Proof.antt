@@ -14,7 +14,7 @@ use Rattle.table_entries.specs.Steps.{InSlot}
 use Rattle.table_descend.specs.declared.Looked.the-variants.{Held}
 use Rattle.table_entries.proofs.Answers.{key-in-slot}
 use Rattle.table_entries.proofs.Fields.{root-is}
-use Rattle.table_descend.proofs.Changes.{Counted}
+use Rattle.lists.proofs.Changes.{Counted}
 use Rattle.table_descend.proofs.WayDown.{rest, Searching, none-held, root-held, starts, at-held, room, found, smaller, goes-on, absent}
 use Rattle.table_descend.proofs.descend.Statement.{statement}
 use Rattle.table_descend.proofs.descend.Tie as tie

@@ -1,0 +1,2 @@
+-- Laws of replies.
+pub mod Refusals
