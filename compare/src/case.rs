@@ -106,22 +106,25 @@ impl Case<'_> {
         self.trace(&call);
         let archive = run_archive(&call, &self.table, self.empty);
         let (second, mut faults) = self.second(&call);
-        faults.extend(complaint(&archive));
+        faults.extend(complaint(&archive[0]));
         self.judge(&call, &archive, &second, faults);
         self.table.clone_from(&second.table);
         second
     }
 
-    /// Counts a call that was made on the table with these two outcomes, and
-    /// reports it if they differ, if one is wrong in itself, or if there are
-    /// faults already.
+    /// Counts a call that was made on the table with these outcomes, and reports
+    /// it if the programs differ, if the archive's two differ or are wrong in
+    /// themselves, or if there are faults already.
     pub fn judge(
         &mut self,
         call: &Call,
-        archive: &Outcome,
+        [archive, elsewhere]: &[Outcome; 2],
         second: &Outcome,
         mut faults: Vec<String>,
     ) {
+        if archive != elsewhere {
+            faults.push("the archive answers otherwise at other addresses".to_string());
+        }
         let before = Outcome::untouched(call, &self.table);
         faults.extend(differences(archive, second));
         faults.extend(refusal_faults(&before, archive));
