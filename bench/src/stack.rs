@@ -82,3 +82,15 @@ fn run_on(low: *mut u8, job: &mut Job) {
         assert_eq!(pthread_join(thread, &mut result), 0);
     }
 }
+
+#[cfg(test)]
+mod tests {
+    use super::*;
+
+    #[test]
+    fn an_array_on_the_stack_shows() {
+        let array = depth(&mut || _ = black_box([1u8; 100_000]));
+        assert!(array >= 100_000, "{array}");
+        assert!(depth(&mut || ()) < 1_000);
+    }
+}
