@@ -1,11 +1,11 @@
 //! The stack that each call uses.
 
+use crate::black_box::black_box;
 use crate::case::ORDER;
 use crate::stack::depth;
 use btreap::{Place, Refusal, LONGEST_IMAGE, MOST_SLOTS};
 use reference::random::splitmix;
 use std::collections::BTreeSet;
-use std::hint::black_box;
 
 /// Measures every call at the greatest table and at a small one, and prints it.
 pub fn print() {

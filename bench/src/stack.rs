@@ -1,8 +1,9 @@
 //! How much of the stack a call uses: it runs on a thread whose stack is memory
 //! of ours, painted beforehand; afterwards the paint shows how deep it went.
 
-use std::ffi::{c_int, c_void};
-use std::hint::black_box;
+use crate::black_box::black_box;
+use std::ffi::c_void;
+use std::os::raw::c_int;
 
 /// The stack of the measuring thread.
 const STACK: usize = 8 << 20;

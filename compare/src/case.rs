@@ -25,6 +25,12 @@ pub struct Plan {
     pub trace: bool,
 }
 
+impl Plan {
+    pub fn is_over(&self) -> bool {
+        self.deadline.map_or(false, |end| Instant::now() >= end)
+    }
+}
+
 /// A section's cases so far.
 #[derive(Debug)]
 pub struct Tally {
@@ -51,9 +57,8 @@ impl Tally {
     pub fn case(&mut self, body: impl FnOnce(&mut Case)) {
         let number = self.cases;
         self.cases += 1;
-        let chosen = self.plan.only.is_none_or(|only| only == number);
-        let late = self.plan.deadline.is_some_and(|end| Instant::now() >= end);
-        if !chosen || late {
+        let chosen = self.plan.only.unwrap_or(number) == number;
+        if !chosen || self.plan.is_over() {
             return;
         }
         let random = Random::of_case(self.section, self.plan.seed, number);
