@@ -1,10 +1,10 @@
 //! How a job is repeated, and how its reply is looked at.
 
+use crate::black_box::black_box;
 use crate::case::TURNS;
 use crate::plain::{serialised, Plain, Set};
 use crate::timing::{candidate, Candidate};
 use btreap::Refusal;
-use std::hint::black_box;
 
 /// Candidate (a): the exclusive or of all words of the table.
 pub fn reading(table: &[u64]) -> Candidate<'_> {

@@ -1,7 +1,7 @@
 //! The time that this thread has run. Other programs on the machine take turns
 //! with it, which is not counted.
 
-use std::ffi::{c_int, c_long};
+use std::os::raw::{c_int, c_long};
 use std::time::Duration;
 
 /// Linux's number for the clock of the calling thread.

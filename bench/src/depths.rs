@@ -1,11 +1,11 @@
 //! The stack that each call uses.
 
+use crate::black_box::black_box;
 use crate::case::ORDER;
 use crate::stack::depth;
 use btreap::{Place, Refusal, LONGEST_IMAGE, MOST_SLOTS};
 use reference::random::splitmix;
 use std::collections::BTreeSet;
-use std::hint::black_box;
 
 /// Measures every call at the greatest table and at a small one, and prints it.
 pub fn print() {
@@ -62,4 +62,38 @@ fn keys(number: usize) -> Vec<u64> {
 /// A call that is refused ends the run.
 fn done<T>(reply: Result<T, Refusal>) {
     assert!(black_box(reply).is_ok(), "a call was refused");
+}
+
+#[cfg(test)]
+mod tests {
+    use super::*;
+
+    const HEADER: &str = include_str!("../../include/btreap.h");
+
+    /// What the header calls next to none.
+    const NEXT_TO_NONE: usize = 1_000;
+
+    /// The number that follows these words of the header.
+    fn promised(words: &str) -> usize {
+        let text = HEADER.replace("\n *", "");
+        let (_, after) = text.split_once(words).expect("the header has these words");
+        let number: String = after.chars().take_while(|&c| c != ' ').collect();
+        number.replace(',', "").parse().expect("a number")
+    }
+
+    #[test]
+    fn no_call_uses_more_than_the_header_says() {
+        let reading = promised("Stack, as measured: up to ");
+        let other = promised("bytes for btreap_read and btreap_list, up to ");
+        for slots in [MOST_SLOTS, 64] {
+            for (call, depth) in depths(slots) {
+                let most = match call {
+                    "read" | "list" => reading,
+                    "set_up" => NEXT_TO_NONE,
+                    _ => other,
+                };
+                assert!(depth <= most, "{call}, {slots} slots: {depth} > {most}");
+            }
+        }
+    }
 }

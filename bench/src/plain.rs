@@ -50,8 +50,8 @@ impl Plain {
 
     /// Makes the set of the bytes that serialising gives.
     pub fn deserialise(&mut self, bytes: &[u8]) {
-        let keys = bytes.as_chunks::<KEY_BYTES>().0;
-        self.set = keys.iter().map(|key| u64::from_le_bytes(*key)).collect();
+        let key = |bytes: &[u8]| u64::from_le_bytes(bytes.try_into().expect("a key's bytes"));
+        self.set = bytes.chunks_exact(KEY_BYTES).map(key).collect();
     }
 
     /// A line for each key.

@@ -2,13 +2,13 @@
 //! with. Outputs and tables are not cleared between calls. Every reply is
 //! looked at: a call that refuses when it should not ends the run.
 
+use crate::black_box::black_box;
 use crate::candidates::{asking, changing, changing_set, expect, over, reading, refusal};
 use crate::case::{Case, ORDER};
 use crate::plain::{serialised, Plain, Set};
 use crate::timing::{candidate, Candidate};
 use reference::calls::{self, TOO_MANY};
 use reference::fast;
-use std::hint::black_box;
 
 /// One call on one case with its four candidates: the library's call, (a)
 /// reading the table's words once, (b) the second program's fast form, and (c)

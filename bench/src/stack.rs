@@ -1,8 +1,9 @@
 //! How much of the stack a call uses: it runs on a thread whose stack is memory
 //! of ours, painted beforehand; afterwards the paint shows how deep it went.
 
-use std::ffi::{c_int, c_void};
-use std::hint::black_box;
+use crate::black_box::black_box;
+use std::ffi::c_void;
+use std::os::raw::c_int;
 
 /// The stack of the measuring thread.
 const STACK: usize = 8 << 20;
@@ -80,5 +81,17 @@ fn run_on(low: *mut u8, job: &mut Job) {
             0
         );
         assert_eq!(pthread_join(thread, &mut result), 0);
+    }
+}
+
+#[cfg(test)]
+mod tests {
+    use super::*;
+
+    #[test]
+    fn an_array_on_the_stack_shows() {
+        let array = depth(&mut || _ = black_box([1u8; 100_000]));
+        assert!(array >= 100_000, "{array}");
+        assert!(depth(&mut || ()) < 1_000);
     }
 }

@@ -38,7 +38,7 @@ pub fn candidate<'a, S: 'a>(
 /// disturbs it. In each round every candidate has its turn, so that a change of
 /// the machine's speed meets all.
 pub fn least<const N: usize>(mut candidates: [Candidate; N]) -> [f64; N] {
-    let repeats = candidates.each_mut().map(repeats_of);
+    let repeats: Vec<usize> = candidates.iter_mut().map(repeats_of).collect();
     let mut least = [f64::INFINITY; N];
     let start = Instant::now();
     for round in 0..MOST_ROUNDS {

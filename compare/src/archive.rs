@@ -1,8 +1,9 @@
-//! A call of the archive, in memory that shows every write that is not the
-//! call's to make.
+//! A call of the archive, in pages that end the process where it reads or writes
+//! what is not lent to it, or writes what it is lent only to read.
 
 use crate::call::{Call, Place};
 use crate::outcome::{Outcome, Reply};
+use crate::pages::{Access, Cell, Flush, Pages};
 use btreap::sys;
 use std::ptr;
 
@@ -13,14 +14,19 @@ pub enum Empty {
     Null,
 }
 
-/// Makes the call on a copy of the table.
-pub fn run_archive(call: &Call, table: &[u64], empty: Empty) -> Outcome {
-    let mut lent = Lent::new(call, table);
+/// Makes the call twice, each time on copies of its own: all that is lent begins
+/// at a closed page, and all ends at one.
+pub fn run_archive(call: &Call, table: &[u64], empty: Empty) -> [Outcome; 2] {
+    [Flush::Start, Flush::End].map(|flush| run_once(call, table, empty, flush))
+}
+
+fn run_once(call: &Call, table: &[u64], empty: Empty, flush: Flush) -> Outcome {
+    let lent = Lent::new(call, table, flush);
     let (reply, place) = lent.make(call, empty);
     Outcome {
         reply,
         place,
-        stray: lent.stray(call),
+        stray: lent.stray(),
         table: lent.table.content().to_vec(),
         words: lent.words.content().to_vec(),
         bytes: lent.bytes.content().to_vec(),
@@ -28,94 +34,35 @@ pub fn run_archive(call: &Call, table: &[u64], empty: Empty) -> Outcome {
 }
 
 // ---------------------------------------------------------------------------
-// Memory with guards around it
-
-/// What a guard is made of.
-trait Cell: Copy + PartialEq {
-    /// Cells of a guard. Odd for bytes, so that they begin at an odd address.
-    const GUARD: usize;
-    fn guard(place: usize) -> Self;
-}
-
-impl Cell for u64 {
-    const GUARD: usize = 24;
-    fn guard(place: usize) -> u64 {
-        0xDEAD_BEEF_0BAD_F00D ^ ((place as u64) << 20)
-    }
-}
-
-impl Cell for u8 {
-    const GUARD: usize = 61;
-    fn guard(place: usize) -> u8 {
-        (place * 59 + 0x3B) as u8
-    }
-}
-
-/// Some content with a guard on each side.
-struct Guarded<T> {
-    cells: Vec<T>,
-}
-
-impl<T: Cell> Guarded<T> {
-    fn new(content: &[T]) -> Guarded<T> {
-        let length = content.len() + 2 * T::GUARD;
-        let mut cells: Vec<T> = (0..T::GUARD).map(T::guard).collect();
-        cells.extend(content);
-        cells.extend((cells.len()..length).map(T::guard));
-        Guarded { cells }
-    }
-
-    fn content(&self) -> &[T] {
-        &self.cells[T::GUARD..self.cells.len() - T::GUARD]
-    }
-
-    /// Address and length of the content.
-    fn lend(&mut self, empty: Empty) -> (*mut T, usize) {
-        let length = self.content().len();
-        if length == 0 && empty == Empty::Null {
-            return (ptr::null_mut(), 0);
-        }
-        (self.cells[T::GUARD..].as_mut_ptr(), length)
-    }
-
-    fn guards_hold(&self) -> bool {
-        let end = self.cells.len() - T::GUARD;
-        (0..T::GUARD)
-            .chain(end..self.cells.len())
-            .all(|place| self.cells[place] == T::guard(place))
-    }
-}
-
-// ---------------------------------------------------------------------------
 // The call
 
 /// All the memory that a call is lent; what it has no use for is empty.
-struct Lent {
-    table: Guarded<u64>,
-    list: Guarded<u64>,
-    image: Guarded<u8>,
-    words: Guarded<u64>,
-    bytes: Guarded<u8>,
+pub struct Lent {
+    pub table: Pages<u64>,
+    pub list: Pages<u64>,
+    pub image: Pages<u8>,
+    pub words: Pages<u64>,
+    pub bytes: Pages<u8>,
 }
 
 impl Lent {
-    fn new(call: &Call, table: &[u64]) -> Lent {
+    pub fn new(call: &Call, table: &[u64], flush: Flush) -> Lent {
         Lent {
-            table: Guarded::new(table),
-            list: Guarded::new(call.list()),
-            image: Guarded::new(call.image()),
-            words: Guarded::new(&call.output_words()),
-            bytes: Guarded::new(&call.output_bytes()),
+            table: Pages::new(table, flush, call.table_access()),
+            list: Pages::new(call.list(), flush, Access::Read),
+            image: Pages::new(call.image(), flush, Access::Read),
+            words: Pages::new(&call.output_words(), flush, Access::Write),
+            bytes: Pages::new(&call.output_bytes(), flush, Access::Write),
         }
     }
 
     /// The reply, and the place after a step.
-    fn make(&mut self, call: &Call, empty: Empty) -> (Reply, Option<Place>) {
-        let (t, n) = self.table.lend(empty);
-        let (keys, number) = self.list.lend(empty);
-        let (image, length) = self.image.lend(empty);
-        let (words, _) = self.words.lend(empty);
-        let (bytes, _) = self.bytes.lend(empty);
+    fn make(&self, call: &Call, empty: Empty) -> (Reply, Option<Place>) {
+        let (t, n) = lend(&self.table, empty);
+        let (keys, number) = lend(&self.list, empty);
+        let (image, length) = lend(&self.image, empty);
+        let (words, _) = lend(&self.words, empty);
+        let (bytes, _) = lend(&self.bytes, empty);
         // SAFETY: each address goes with its own length, and no two overlap.
         let reply = unsafe {
             match *call {
@@ -139,18 +86,22 @@ impl Lent {
     }
 
     /// The memory that was written though the call had no business there.
-    fn stray(&self, call: &Call) -> Vec<&'static str> {
+    fn stray(&self) -> Vec<&'static str> {
         let kept = [
-            ("beside the table", self.table.guards_hold()),
-            ("beside the list", self.list.guards_hold()),
-            ("beside the image", self.image.guards_hold()),
-            ("beside the output words", self.words.guards_hold()),
-            ("beside the output bytes", self.bytes.guards_hold()),
-            ("in the list", self.list.content() == call.list()),
-            ("in the image", self.image.content() == call.image()),
+            ("beside the table", self.table.paint_holds()),
+            ("beside the output words", self.words.paint_holds()),
+            ("beside the output bytes", self.bytes.paint_holds()),
         ];
         let written = kept.into_iter().filter(|(_, kept)| !kept);
         written.map(|(name, _)| name).collect()
+    }
+}
+
+/// Address and length of the content.
+fn lend<T: Cell>(pages: &Pages<T>, empty: Empty) -> (*mut T, usize) {
+    match (pages.content().len(), empty) {
+        (0, Empty::Null) => (ptr::null_mut(), 0),
+        (length, _) => (pages.start(), length),
     }
 }
 
@@ -204,51 +155,22 @@ fn stepped(reply: sys::SteppedReply) -> (Reply, Option<Place>) {
 mod tests {
     use super::*;
 
-    const GUARDED: [u64; 3] = [1, 2, 3];
-
     #[test]
-    fn a_write_within_the_content_leaves_the_guards() {
-        let mut memory = Guarded::new(&GUARDED);
-        let (start, length) = memory.lend(Empty::Address);
-        assert_eq!(length, 3);
-        // SAFETY: within the memory, as in the tests below.
-        unsafe { *start.add(2) = 9 };
-        assert!(memory.guards_hold());
-        assert_eq!(memory.content(), [1, 2, 9]);
-    }
-
-    #[test]
-    fn a_write_on_either_side_shows() {
-        for offset in [-24, -1, 3, 26] {
-            let mut memory = Guarded::new(&GUARDED);
-            let (start, _) = memory.lend(Empty::Address);
-            unsafe { *start.offset(offset) ^= 1 };
-            assert!(!memory.guards_hold(), "{offset}");
+    fn a_write_beside_what_is_lent_is_named() {
+        let call = Call::Write { room: 4 };
+        for (flush, beside) in [(Flush::Start, 4), (Flush::End, -1)] {
+            let lent = Lent::new(&call, &[], flush);
+            assert_eq!(lent.stray(), [""; 0]);
+            // SAFETY: within the page, which is ours.
+            unsafe { *lent.bytes.start().offset(beside) ^= 1 };
+            assert_eq!(lent.stray(), ["beside the output bytes"]);
         }
-    }
-
-    #[test]
-    fn a_write_beside_or_into_what_is_only_read_is_named() {
-        let image = vec![1, 2, 3];
-        let call = Call::List { image, room: 4 };
-        let mut lent = Lent::new(&call, &[]);
-        assert_eq!(lent.stray(&call), [""; 0]);
-        let (bytes, room) = lent.bytes.lend(Empty::Address);
-        let (image, _) = lent.image.lend(Empty::Address);
-        unsafe {
-            *bytes.add(room) ^= 1;
-            *image ^= 1;
-        }
-        assert_eq!(
-            lent.stray(&call),
-            ["beside the output bytes", "in the image"]
-        );
     }
 
     #[test]
     fn nothing_has_an_address_or_none() {
-        let mut memory = Guarded::<u8>::new(&[]);
-        assert!(!memory.lend(Empty::Address).0.is_null());
-        assert!(memory.lend(Empty::Null).0.is_null());
+        let nothing = Pages::<u8>::new(&[], Flush::End, Access::Read);
+        assert!(!lend(&nothing, Empty::Address).0.is_null());
+        assert!(lend(&nothing, Empty::Null).0.is_null());
     }
 }

@@ -1,5 +1,6 @@
 //! The ten calls, each with all that it is given but the table.
 
+use crate::pages::Access;
 use reference::calls;
 use std::fmt;
 
@@ -45,6 +46,16 @@ pub enum Call {
 }
 
 impl Call {
+    /// What the call is lent the table for.
+    pub fn table_access(&self) -> Access {
+        match self {
+            Call::SetUp { .. } | Call::Build { .. } | Call::Read { .. } => Access::Write,
+            Call::Insert { .. } | Call::Delete { .. } => Access::Write,
+            Call::LookUp { .. } | Call::Range { .. } | Call::Step { .. } => Access::Read,
+            Call::Write { .. } | Call::List { .. } => Access::Read,
+        }
+    }
+
     /// The keys that the call is lent to read.
     pub fn list(&self) -> &[u64] {
         match self {

@@ -25,6 +25,12 @@ pub struct Plan {
     pub trace: bool,
 }
 
+impl Plan {
+    pub fn is_over(&self) -> bool {
+        self.deadline.map_or(false, |end| Instant::now() >= end)
+    }
+}
+
 /// A section's cases so far.
 #[derive(Debug)]
 pub struct Tally {
@@ -51,9 +57,8 @@ impl Tally {
     pub fn case(&mut self, body: impl FnOnce(&mut Case)) {
         let number = self.cases;
         self.cases += 1;
-        let chosen = self.plan.only.is_none_or(|only| only == number);
-        let late = self.plan.deadline.is_some_and(|end| Instant::now() >= end);
-        if !chosen || late {
+        let chosen = self.plan.only.unwrap_or(number) == number;
+        if !chosen || self.plan.is_over() {
             return;
         }
         let random = Random::of_case(self.section, self.plan.seed, number);
@@ -106,22 +111,25 @@ impl Case<'_> {
         self.trace(&call);
         let archive = run_archive(&call, &self.table, self.empty);
         let (second, mut faults) = self.second(&call);
-        faults.extend(complaint(&archive));
+        faults.extend(complaint(&archive[0]));
         self.judge(&call, &archive, &second, faults);
         self.table.clone_from(&second.table);
         second
     }
 
-    /// Counts a call that was made on the table with these two outcomes, and
-    /// reports it if they differ, if one is wrong in itself, or if there are
-    /// faults already.
+    /// Counts a call that was made on the table with these outcomes, and reports
+    /// it if the programs differ, if the archive's two differ or are wrong in
+    /// themselves, or if there are faults already.
     pub fn judge(
         &mut self,
         call: &Call,
-        archive: &Outcome,
+        [archive, elsewhere]: &[Outcome; 2],
         second: &Outcome,
         mut faults: Vec<String>,
     ) {
+        if archive != elsewhere {
+            faults.push("the archive answers otherwise at other addresses".to_string());
+        }
         let before = Outcome::untouched(call, &self.table);
         faults.extend(differences(archive, second));
         faults.extend(refusal_faults(&before, archive));

@@ -8,6 +8,7 @@ pub mod generator;
 pub mod keys;
 pub mod options;
 pub mod outcome;
+pub mod pages;
 pub mod random;
 pub mod run;
 pub mod second_program;

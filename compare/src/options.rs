@@ -62,5 +62,7 @@ impl Options {
 /// A number of minutes, perhaps with a fraction.
 fn minutes(text: &str) -> Option<Duration> {
     let minutes = text.parse::<f64>().ok()?;
-    Duration::try_from_secs_f64(60.0 * minutes).ok()
+    (0.0..1e9)
+        .contains(&minutes)
+        .then(|| Duration::from_secs_f64(60.0 * minutes))
 }

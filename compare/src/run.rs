@@ -88,7 +88,7 @@ fn in_threads(
             return;
         }
         let (section, plan) = job(i);
-        if plan.deadline.is_some_and(|end| Instant::now() >= end) {
+        if plan.is_over() {
             return;
         }
         let tally = run_section(section, plan);

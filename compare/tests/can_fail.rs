@@ -1,50 +1,16 @@
 //! The comparison can fail: true outcomes pass, and each is caught that is made
 //! wrong in one place.
 
+mod common;
+
+use common::{accepted_calls, table, KEYS};
 use compare::archive::{run_archive, Empty};
 use compare::call::{Call, Place};
 use compare::case::{Plan, Tally};
 use compare::outcome::{differences, refusal_faults, Outcome};
 use compare::run::{is_good, Total, FEWEST_CALLS};
 use compare::second_program::run_second_program;
-use compare::tables::{image_of, listing_length, sound_table};
-
-const KEYS: [u64; 5] = [3, 8, 20, 21, 40];
-
-fn table() -> Vec<u64> {
-    sound_table(7, 3, &KEYS)
-}
-
-/// One of each kind that is accepted, outputs longer than needed.
-fn accepted_calls() -> [Call; 10] {
-    let image = image_of(3, &KEYS);
-    [
-        Call::SetUp { order: 9 },
-        Call::Build {
-            order: 4,
-            list: vec![1, 2],
-        },
-        Call::Insert { key: 22 },
-        Call::Delete { key: 8 },
-        Call::LookUp { key: 21 },
-        Call::Range {
-            low: 4,
-            high: 30,
-            room: 6,
-        },
-        Call::Step {
-            place: Place::WHOLE,
-        },
-        Call::Write { room: 400 },
-        Call::Read {
-            image: image.clone(),
-        },
-        Call::List {
-            image,
-            room: listing_length(3, &KEYS) + 4,
-        },
-    ]
-}
+use compare::tables::listing_length;
 
 /// One of each kind that is refused, on a table that is not one.
 fn refused_calls() -> [Call; 10] {
@@ -56,9 +22,14 @@ fn refused_calls() -> [Call; 10] {
     calls
 }
 
-/// The second program's outcome and what the tally then says of the archive's
-/// after a change: calls and failures.
-fn judged(call: &Call, table: &[u64], change: impl FnOnce(&mut Outcome)) -> (u64, u64) {
+/// What the tally says of the archive's outcomes after a change of both: calls
+/// and failures.
+fn judged(call: &Call, table: &[u64], change: impl Fn(&mut Outcome)) -> (u64, u64) {
+    judged_pair(call, table, |archive| archive.iter_mut().for_each(&change))
+}
+
+/// The same after any change of the two.
+fn judged_pair(call: &Call, table: &[u64], change: impl Fn(&mut [Outcome; 2])) -> (u64, u64) {
     let second = run_second_program(call, table);
     let mut archive = run_archive(call, table, Empty::Address);
     change(&mut archive);
@@ -71,7 +42,7 @@ fn judged(call: &Call, table: &[u64], change: impl FnOnce(&mut Outcome)) -> (u64
 }
 
 #[track_caller]
-fn caught(call: &Call, table: &[u64], change: impl FnOnce(&mut Outcome)) {
+fn caught(call: &Call, table: &[u64], change: impl Fn(&mut Outcome)) {
     assert_eq!(judged(call, table, change), (1, 1), "{call:?}");
 }
 
@@ -79,12 +50,12 @@ fn caught(call: &Call, table: &[u64], change: impl FnOnce(&mut Outcome)) {
 fn true_outcomes_pass() {
     let table = table();
     for call in accepted_calls() {
-        let outcome = run_archive(&call, &table, Empty::Address);
+        let [outcome, _] = run_archive(&call, &table, Empty::Address);
         assert_eq!(outcome.reply.refusal, 0, "{call:?}");
         assert_eq!(judged(&call, &table, |_| ()), (1, 0), "{call:?}");
     }
     for call in refused_calls() {
-        let outcome = run_archive(&call, &table[1..], Empty::Address);
+        let [outcome, _] = run_archive(&call, &table[1..], Empty::Address);
         assert_ne!(outcome.reply.refusal, 0, "{call:?}");
         assert_eq!(judged(&call, &table[1..], |_| ()), (1, 0), "{call:?}");
     }
@@ -184,12 +155,21 @@ fn memory_written_astray_is_caught() {
     }
 }
 
+#[test]
+fn an_outcome_that_hangs_on_addresses_is_caught() {
+    let call = Call::LookUp { key: 21 };
+    for which in [0, 1] {
+        let change = |archive: &mut [Outcome; 2]| archive[which].reply.numbers[0].1 ^= 1;
+        assert_eq!(judged_pair(&call, &table(), change), (1, 1));
+    }
+}
+
 /// Both programs in agreement about a refusal that changes something.
 #[test]
 fn a_refusal_that_changes_memory_is_caught_though_both_agree() {
     let call = Call::Write { room: 30 };
     let before = Outcome::untouched(&call, &table());
-    let refused = run_archive(&call, &table(), Empty::Address);
+    let [refused, _] = run_archive(&call, &table(), Empty::Address);
     assert_eq!(refused.reply.refusal, 11);
     assert_eq!(refusal_faults(&before, &refused), [""; 0]);
     let changes: [fn(&mut Outcome); 3] = [

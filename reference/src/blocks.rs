@@ -47,8 +47,9 @@ pub fn fill(order: u64, keys: u64, blocks: u64) -> u64 {
 
 /// Every block that exists, each with the keys it holds by definition.
 pub fn blocks_by_definition(shape: &Shape) -> Vec<Block> {
-    let Some(k) = shape.root_rank() else {
-        return vec![];
+    let k = match shape.root_rank() {
+        Some(k) => k,
+        None => return vec![],
     };
     let mut all = vec![root_block(shape, k)];
     for level in (1..k).rev() {
@@ -111,8 +112,9 @@ fn name(shape: &Shape, node: &Node, k: u64) -> (u64, u64) {
 
 /// The same blocks, by putting each key into the block that it names.
 pub fn blocks_by_name(shape: &Shape) -> Vec<Block> {
-    let Some(k) = shape.root_rank() else {
-        return vec![];
+    let k = match shape.root_rank() {
+        Some(k) => k,
+        None => return vec![],
     };
     let mut all: BTreeMap<(Reverse<u64>, u64), Vec<u64>> = BTreeMap::new();
     for node in &shape.nodes {
@@ -132,7 +134,10 @@ pub fn blocks_by_name(shape: &Shape) -> Vec<Block> {
 
 /// The same number, by the different names on the way down.
 pub fn blocks_met_by_name(shape: &Shape, key: u64) -> u64 {
-    let Some(k) = shape.root_rank() else { return 0 };
+    let k = match shape.root_rank() {
+        Some(k) => k,
+        None => return 0,
+    };
     let names: BTreeSet<(u64, u64)> = shape
         .path(key)
         .into_iter()

@@ -189,9 +189,7 @@ impl Index<'_> {
         let m = slots(table)?;
         refuse_if(key == 0, KEY_ZERO)?;
         let mut contents = self.contents(table)?;
-        let Err(place) = contents.keys.binary_search(&key) else {
-            return Err(HELD);
-        };
+        let place = contents.keys.binary_search(&key).err().ok_or(HELD)?;
         refuse_if(contents.keys.len() + 1 > m, TOO_MANY)?;
         contents.keys.insert(place, key);
         self.write(table, m, &contents);
@@ -207,9 +205,7 @@ impl Index<'_> {
         let m = slots(table)?;
         refuse_if(key == 0, KEY_ZERO)?;
         let mut contents = self.contents(table)?;
-        let Ok(place) = contents.keys.binary_search(&key) else {
-            return Err(ABSENT);
-        };
+        let place = contents.keys.binary_search(&key).or(Err(ABSENT))?;
         let rank = self.rank(&contents, key);
         contents.keys.remove(place);
         self.write(table, m, &contents);

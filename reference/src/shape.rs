@@ -96,7 +96,7 @@ fn next_level(order: u64, level: &[Entry]) -> Vec<Entry> {
 fn in_level(levels: &[Vec<Entry>], i: u64, key: u64) -> bool {
     levels
         .get(i as usize)
-        .is_some_and(|level| level.iter().any(|e| e.key == key))
+        .map_or(false, |level| level.iter().any(|e| e.key == key))
 }
 
 /// "rank(v) is the largest i with v in Li."
@@ -170,7 +170,10 @@ pub fn shape_on_one_treap(order: u64, rising: &[Entry]) -> Shape {
 /// Appends the subtree's nodes, rising, without leaders; gives rank and count
 /// of its root, (0, 0) for none.
 fn rank_and_count(order: u64, top: u64, treap: &Treap, nodes: &mut Vec<Node>) -> (u64, u64) {
-    let Some(root) = treap else { return (0, 0) };
+    let root = match treap {
+        Some(root) => root,
+        None => return (0, 0),
+    };
     let left = rank_and_count(order, top, &root.left, nodes);
     let place = nodes.len();
     nodes.push(Node {
@@ -199,8 +202,9 @@ fn rank_and_count(order: u64, top: u64, treap: &Treap, nodes: &mut Vec<Node>) ->
 /// Sets the leaders in the subtree of the key: the parent if it is of higher
 /// rank, else the parent's own leader, being of the same rank.
 fn lead(shape: &mut Shape, key: u64, parent: u64) {
-    let Ok(i) = shape.nodes.binary_search_by_key(&key, |node| node.key) else {
-        return;
+    let i = match shape.nodes.binary_search_by_key(&key, |node| node.key) {
+        Ok(i) => i,
+        Err(_) => return,
     };
     shape.nodes[i].leader = match shape.node(parent) {
         None => 0,

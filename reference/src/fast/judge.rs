@@ -70,8 +70,9 @@ impl Judged {
     /// Whether the words of the nodes are right: each node's by those of its
     /// children, and all nodes are met from the root down.
     fn hangs_together(&mut self, order: u64, root: u64) -> bool {
-        let Some(root) = self.find(root) else {
-            return false;
+        let root = match self.find(root) {
+            Some(root) => root,
+            None => return false,
         };
         let top = root as usize;
         self.nodes[top].leader == 0

@@ -93,13 +93,13 @@ fn hexadecimal(key: u64) -> [u8; KEY_DIGITS] {
 }
 
 /// How many decimal digits a number has.
-#[inline(always)]
+#[inline]
 fn digits(number: u64) -> usize {
     match number {
-        0..10 => 1,
-        10..100 => 2,
-        100..1000 => 3,
-        _ => number.ilog10() as usize + 1,
+        0..=9 => 1,
+        10..=99 => 2,
+        100..=999 => 3,
+        _ => 3 + digits(number / 1000),
     }
 }
 

@@ -4,6 +4,7 @@
 use crate::priority::Entry;
 use crate::table::{HEADER_WORDS, SLOT_WORDS};
 use crate::MOST_SLOTS;
+use std::slice;
 
 /// One slot: "key, left, right, leader, rank, count".
 pub type Record = [u64; SLOT_WORDS];
@@ -33,11 +34,15 @@ pub fn slots_of_length(words: usize) -> Option<usize> {
 
 /// The slots of a table whose length was tested.
 pub fn slots(table: &[u64]) -> &[Record] {
-    table[HEADER_WORDS..].as_chunks().0
+    let words = &table[HEADER_WORDS..];
+    // SAFETY: a record is so many words in a row.
+    unsafe { slice::from_raw_parts(words.as_ptr().cast(), words.len() / SLOT_WORDS) }
 }
 
 pub fn slots_mut(table: &mut [u64]) -> &mut [Record] {
-    table[HEADER_WORDS..].as_chunks_mut().0
+    let words = &mut table[HEADER_WORDS..];
+    // SAFETY: as above.
+    unsafe { slice::from_raw_parts_mut(words.as_mut_ptr().cast(), words.len() / SLOT_WORDS) }
 }
 
 /// Rank and count of a node from those of its children, (0, 0) for no child.
