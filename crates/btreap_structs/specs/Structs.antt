@@ -11,8 +11,8 @@ use Rattle.btreap_structs.specs.declared.FoundReply.{FoundReply}
 use Rattle.btreap_structs.specs.declared.SizedReply.{SizedReply}
 use Rattle.btreap_structs.specs.declared.SteppedReply.{SteppedReply}
 
--- "0 in `refusal` means accepted, else document 01's number, all other fields then 0": each struct is the refusal and the other
--- numbers of a reply.
+-- "`refusal` is 0 when the call was accepted; all other numbers of a reply are 0 when it was refused": each struct is the refusal and the
+-- other numbers of a reply. A step's place (next, high, done) is no part of its reply, and comes back as it was passed.
 abbrev pub ranked : RankedReply → Reply
 ranked r = record { refusal = r .refusal; numbers = r .rank ∷ [] }
 
