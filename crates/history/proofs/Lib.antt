@@ -7,4 +7,4 @@ pub mod Running
 pub mod Agreeing
 pub mod Claims
 pub mod Tested
-pub mod Meeting
+pub mod HypothesesMet

@@ -1,5 +1,5 @@
 -- What is claimed of the hypotheses of the claims on histories: every table, every call and every history that document 01 speaks of
--- meets them, so that no claim is empty. `proofs/Meeting` proves it. Assumes nothing.
+-- meets them, so that no claim is empty. `proofs/HypothesesMet` proves it. Assumes nothing.
 use mathlib.Core.List.{List, _∷_}
 use mathlib.Core.Path.{_≡_}
 use Prim.Native.Nat.{ℕ, _^_, _<_, _≤_}

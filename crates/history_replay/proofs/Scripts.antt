@@ -1,15 +1,11 @@
 -- A script that begins with an accepted set-up is a history. Assumes nothing.
-use mathlib.Core.Bool.{true, false}
 use mathlib.Core.List.{List, [], _∷_}
 use mathlib.Core.Path.{_≡_, sym, ap, _∙_, subst}
 use Prim.Native.Nat.{ℕ}
 use lib.Dec.{eqb}
 use Rattle.lists.specs.Lists.{All}
 use Rattle.lists.proofs.Tests.{by-test}
-use Rattle.call_meaning.specs.Calls.{setUpRefusal}
 use Rattle.history.specs.Call.{Call, IsWord, Lent, History, runs}
-use Rattle.history.specs.Call.Call.{setUp}
-use Rattle.history.specs.Theorems.{Table}
 use Rattle.history.proofs.Running.{first-accepted, table-from-book}
 use Rattle.history_replay.specs.Script.{callOf, callsIn, BuiltFromBook}
 

@@ -4,7 +4,7 @@ use mathlib.Core.List.{List, [], _∷_, _++_, map}
 use mathlib.Core.Path.{_≡_, refl, sym, ap, ap₂, _∙_, subst}
 use Prim.Native.Nat.{ℕ, zero, suc, _+_, _≤_, _<_}
 use native.Mathlib.Omega.{arith}
-use lib.ListN.{length, getD}
+use lib.ListN.{length, getD, set, replicate}
 use Rattle.lists.specs.Lists.{consIf, keep, every, some, All}
 use Rattle.lists.proofs.Tests.{by-test, true-or-false, and-left, and-right, and-both}
 
@@ -154,6 +154,21 @@ pub all-at : {A : Type 0} (P : A → Type 0) (xs : List A) (i : ℕ) (d : A) →
 all-at P [] i d h k = absurd (omega arith)
 all-at P (x ∷ xs) zero d h k = h .0
 all-at P (x ∷ xs) (suc i) d h k = all-at P xs i d (h .1) (omega arith)
+
+-- and what holds of the default too holds past them
+pub all-anywhere : {A : Type 0} (P : A → Type 0) (xs : List A) (i : ℕ) (d : A) → P d → All P xs → P (getD xs i d)
+all-anywhere P [] i d h a = h
+all-anywhere P (x ∷ xs) zero d h a = a .0
+all-anywhere P (x ∷ xs) (suc i) d h a = all-anywhere P xs i d h (a .1)
+
+pub all-set : {A : Type 0} (P : A → Type 0) (xs : List A) (i : ℕ) (x : A) → P x → All P xs → All P (set xs i x)
+all-set P [] i x h a = tt
+all-set P (y ∷ xs) zero x h a = (h, a .1)
+all-set P (y ∷ xs) (suc i) x h a = (a .0, all-set P xs i x h (a .1))
+
+pub all-replicate : {A : Type 0} (P : A → Type 0) (many : ℕ) (x : A) → P x → All P (replicate many x)
+all-replicate P zero x h = tt
+all-replicate P (suc many) x h = (h, all-replicate P many x h)
 
 -- what holds at each index holds of all elements
 pub all-of-indices : {A : Type 0} (P : A → Type 0) (xs : List A) (d : A) → ((i : ℕ) → i < length xs → P (getD xs i d)) → All P xs

@@ -1,10 +1,9 @@
 -- The words of a blank table: its order, then zeros. Assumes nothing.
-use mathlib.Core.Bool.{cond}
 use mathlib.Core.List.{List, [], _∷_, _++_, flatMap}
-use mathlib.Core.Path.{_≡_, refl, sym, ap, _∙_}
-use Prim.Native.Nat.{ℕ, zero, suc, _+_, _*_, _≤_}
+use mathlib.Core.Path.{_≡_, ap, _∙_}
+use Prim.Native.Nat.{ℕ, zero, suc, _+_, _*_}
 use native.Mathlib.Omega.{arith}
-use lib.ListN.{length, set, replicate, replicate-append-replicate}
+use lib.ListN.{set, replicate, replicate-append-replicate}
 use Rattle.treap.specs.Treap.{top}
 use Rattle.treap.specs.Slots.{slotsOf}
 use Rattle.table.specs.Layout.{slotWords, tableWords}

@@ -8,7 +8,7 @@ use native.Mathlib.Omega.{arith}
 use lib.ListN.{length, getD, take, replicate}
 use borrow.Author.Tests.{ne-eqb}
 use Rattle.lists.specs.Lists.{sortBy, All, Rising}
-use Rattle.lists.proofs.Keep.{all-map}
+use Rattle.lists.proofs.Keep.{all-map, all-replicate}
 use Rattle.lists.proofs.Membership.{all-member, all-of-members}
 use Rattle.lists.proofs.FlatMap.{flatMap-same, flatMap-mapped}
 use Rattle.lists.proofs.Sorting.{all-permuted, sortBy-permutes}
@@ -25,7 +25,7 @@ use Rattle.treap_columns.proofs.Filled.{column-at}
 use Rattle.table.specs.Contents.{Contents}
 use Rattle.table.specs.Table.{homeIn, header, slotOf, fresh}
 use Rattle.table_encode.specs.Encode.{keyAt, Columns, slotAt, wordsOf}
-use Rattle.table_encode.proofs.Renaming.{maps-agree, key-at-zero, keys-of-positions, keys-rename, keys-apart, place-home, all-placed, all-replicate}
+use Rattle.table_encode.proofs.Renaming.{maps-agree, key-at-zero, keys-of-positions, keys-rename, keys-apart, place-home, all-placed}
 
 -- Columns that begin with those of the definitions, over the priorities of the keys.
 pub record Right (order : ℕ) (keys : List ℕ) (c : Columns) : Type 0 where

@@ -5,11 +5,12 @@ use mathlib.Core.Logic.{_≢_}
 use mathlib.Core.Path.{_≡_, refl, sym, ap, _∙_}
 use Prim.Native.Nat.{ℕ, zero, suc, _+_, _<_, _≤_}
 use native.Mathlib.Omega.{arith}
-use lib.ListN.{length, getD, set, replicate}
+use lib.ListN.{length, getD, set}
 use borrow.Author.Tests.{ne-eqb}
 use Rattle.lists.specs.Lists.{member, All, Rising}
-use Rattle.lists.proofs.Keep.{all-map, all-at}
+use Rattle.lists.proofs.Keep.{all-map, all-at, all-set}
 use Rattle.lists.proofs.Membership.{all-member}
+use Rattle.lists.proofs.Ordered.{pairwise-at}
 use Rattle.lists.proofs.UpFrom.{upFrom-within, mapped-at, mapped-upFrom-all}
 use Rattle.treap.specs.Slots.{firstEmpty, placeAll}
 use Rattle.treap_structure.proofs.Relabel.{Renames}
@@ -21,13 +22,6 @@ use Rattle.table_encode.specs.Encode.{keyAt}
 pub maps-agree : (g h : ℕ → ℕ) (xs : List ℕ) → map g xs ≡ map h xs → All (λ x. g x ≡ h x) xs
 maps-agree g h [] e = tt
 maps-agree g h (x ∷ xs) e = (head-eq-of-cons-eq e, maps-agree g h xs (tail-eq-of-cons-eq e))
-
--- a rising list rises from index to index
-pub rising-at : (xs : List ℕ) (i j : ℕ) → Rising xs → i < j → j < length xs → getD xs i 0 < getD xs j 0
-rising-at [] i j s h k = absurd (omega arith)
-rising-at (x ∷ xs) i zero s h k = absurd (omega arith)
-rising-at (x ∷ xs) zero (suc j) s h k = all-at (λ y. x < y) xs j 0 (s .0) (omega arith)
-rising-at (x ∷ xs) (suc i) (suc j) s h k = rising-at xs i j (s .1) (omega arith) (omega arith)
 
 -- ---- keys by position
 pub key-at-suc : (keys : List ℕ) (i : ℕ) → keyAt keys (suc i) ≡ getD keys i 0
@@ -57,7 +51,7 @@ module _ (p : ℕ → ℕ) (keys : List ℕ) (rising : Rising keys) where
       rise : (i j : ℕ) → (1 ≤ i) × (i < 1 + length keys) → (1 ≤ j) × (j < 1 + length keys) → i < j → keyAt keys i < keyAt keys j
       rise zero j a b h = absurd (omega arith)
       rise (suc i) zero a b h = absurd (omega arith)
-      rise (suc i) (suc j) a b h = rw (key-at-suc keys i, key-at-suc keys j) (rising-at keys i j rising (omega arith) (omega arith))
+      rise (suc i) (suc j) a b h = rw (key-at-suc keys i, key-at-suc keys j) (pairwise-at _<_ keys i j rising (omega arith) (omega arith))
 
       keep-priority : (i : ℕ) → (1 ≤ i) × (i < 1 + length keys) → p (keyAt keys i) ≡ weightAt (map p keys) i
       keep-priority zero a = absurd (omega arith)
@@ -81,15 +75,6 @@ place-home g h slots [] e = refl
 place-home g h slots (x ∷ xs) e =
     ap (λ (n : ℕ). placeAll g (set slots (firstEmpty slots n) x) xs) (e .0) ∙ place-home g h (set slots (firstEmpty slots (h x)) x) xs (e .1)
 
-all-set : (P : ℕ → Type 0) (slots : List ℕ) (i x : ℕ) → P x → All P slots → All P (set slots i x)
-all-set P [] i x e a = tt
-all-set P (y ∷ slots) zero x e a = (e, a .1)
-all-set P (y ∷ slots) (suc i) x e a = (a .0, all-set P slots i x e (a .1))
-
 pub all-placed : (P : ℕ → Type 0) (home : ℕ → ℕ) (slots xs : List ℕ) → All P slots → All P xs → All P (placeAll home slots xs)
 all-placed P home slots [] a b = a
 all-placed P home slots (x ∷ xs) a b = all-placed P home (set slots (firstEmpty slots (home x)) x) xs (all-set P slots (firstEmpty slots (home x)) x (b .0) a) (b .1)
-
-pub all-replicate : (P : ℕ → Type 0) (many x : ℕ) → P x → All P (replicate many x)
-all-replicate P zero x h = tt
-all-replicate P (suc many) x h = (h, all-replicate P many x h)

@@ -2,15 +2,13 @@
 use mathlib.Core.Bool.{Bool, true}
 use mathlib.Core.List.{List, [], _∷_, map, Permᴰ·symm}
 use mathlib.Core.Logic.{_≢_}
-use mathlib.Core.Path.{_≡_, refl, sym, ap, ap₂, _∙_, subst, fun-ext}
-use Prim.Native.Nat.{ℕ, zero, suc, _+_, _<_, _≤_}
-use native.Mathlib.Omega.{arith}
+use mathlib.Core.Path.{_≡_, refl, sym, ap, ap₂, _∙_, fun-ext}
+use Prim.Native.Nat.{ℕ, zero, suc}
 use lib.Dec.{eqb}
 use lib.ListN.{length, getD, set, replicate, length-map, List·getD-map}
-use borrow.Author.Tests.{ne-eqb, eq-eqb}
+use borrow.Author.Tests.{ne-eqb}
 use Rattle.lists.specs.Lists.{member, first, sortBy, All, Rising}
-use Rattle.lists.proofs.Tests.{by-test}
-use Rattle.lists.proofs.Keep.{all-map}
+use Rattle.lists.proofs.Keep.{all-map, all-anywhere, all-set}
 use Rattle.lists.proofs.Membership.{all-of-members}
 use Rattle.lists.proofs.Sorting.{all-permuted, sortBy-permutes}
 use Rattle.lists.proofs.Renamed.{map-set, sort-renamed}
@@ -24,23 +22,12 @@ module _ (f home : ℕ → ℕ) (nothing : f 0 ≡ 0) where
   Faithful : ℕ → Type 0
   Faithful x = eqb (f x) 0 ≡ eqb x 0
 
-  at-index : (s : List ℕ) (i : ℕ) → All Faithful s → Faithful (getD s i 0)
-  unfolding Faithful
-  at-index [] i h = ap (λ (z : ℕ). eqb z 0) nothing
-  at-index (x ∷ s) zero h = h .0
-  at-index (x ∷ s) (suc i) h = at-index s i (h .1)
-
   renamed-empty : (s : List ℕ) (h : ℕ) → All Faithful s → firstEmpty (map f s) h ≡ firstEmpty s h
   unfolding firstEmpty Faithful
   renamed-empty s h a =
       ap (λ (n : ℕ). first n (λ i. eqb (getD (map f s) i 0) 0) (probes n h)) (length-map s f)
       ∙ ap (λ (t : ℕ → Bool). first (length s) t (probes (length s) h))
-      (fun-ext (λ i. ap (λ (z : ℕ). eqb (getD (map f s) i z) 0) (sym nothing) ∙ ap (λ (z : ℕ). eqb z 0) (List·getD-map f s i 0) ∙ at-index s i a))
-
-  faithful-set : (s : List ℕ) (i x : ℕ) → Faithful x → All Faithful s → All Faithful (set s i x)
-  faithful-set [] i x e h = tt
-  faithful-set (y ∷ s) zero x e h = (e, h .1)
-  faithful-set (y ∷ s) (suc i) x e h = (h .0, faithful-set s i x e (h .1))
+      (fun-ext (λ i. ap (λ (z : ℕ). eqb (getD (map f s) i z) 0) (sym nothing) ∙ ap (λ (z : ℕ). eqb z 0) (List·getD-map f s i 0) ∙ all-anywhere Faithful s i 0 (ap (λ (z : ℕ). eqb z 0) nothing) a))
 
   renamed-place : (s xs : List ℕ) → All Faithful s → All Faithful xs → placeAll home (map f s) (map f xs) ≡ map f (placeAll (λ i. home (f i)) s xs)
   renamed-place s [] a b = refl
@@ -48,7 +35,7 @@ module _ (f home : ℕ → ℕ) (nothing : f 0 ≡ 0) where
       let at = firstEmpty s (home (f x)) in
       ap (λ (n : ℕ). placeAll home (set (map f s) n (f x)) (map f xs)) (renamed-empty s (home (f x)) a)
       ∙ ap (λ (t : List ℕ). placeAll home t (map f xs)) (sym (map-set f s at x))
-      ∙ renamed-place (set s at x) xs (faithful-set s at x (b .0) a) (b .1)
+      ∙ renamed-place (set s at x) xs (all-set Faithful s at x (b .0) a) (b .1)
 
   blank : (many : ℕ) → (map f (replicate many 0) ≡ replicate many 0) × All Faithful (replicate many 0)
   unfolding Faithful

@@ -1,1 +1,1 @@
-// The literal definitions of treap, levels, blocks and slots, with document 01's examples. No code.
+// The literal definitions of treap, levels, blocks, slots and image, with document 01's examples. No code.
