@@ -11,6 +11,7 @@ use Rattle.table.specs.Contents.{Contents}
 use Rattle.table.specs.Table.{fresh}
 use Rattle.image.specs.Image.{imageOf, readImage}
 use Rattle.call_sets.specs.Sets.{joined, without}
+use Rattle.call_sets.specs.Load.{loaded}
 use Rattle.table_limits.specs.Lengths.{slotsFor}
 use Rattle.intervals.specs.Intervals.{within}
 use Rattle.call_replies.specs.Replies.{Reply, lowest, unlessRefused}
@@ -34,6 +35,21 @@ setUpReply words order = record { refusal = setUpRefusal words order; numbers = 
 -- "Set-up writes a blank table."
 unfoldable pub setUpAfter : List ℕ → ℕ → List ℕ
 setUpAfter words order = unlessRefused (setUpRefusal words order) (rewritten words (record { order = order; keys = [] })) words
+
+-- A load: "Errors: the checks are 1, 2."
+unfoldable pub loadRefusal : List ℕ → ℕ → ℕ
+loadRefusal words order = lowest (wrongLength words ∷ wrongOrder order ∷ [])
+
+unfoldable pub loadReply : List ℕ → ℕ → Reply
+loadReply words order = record { refusal = loadRefusal words order; numbers = [] }
+
+-- "A load sets up the table with a given order, then does 0 to 65,535 operations .. The end set must equal what these rules give
+-- without the treap."
+unfoldable pub loadAfter : List ℕ → ℕ → ℕ → ℕ → List ℕ
+loadAfter words order seed count =
+    unlessRefused (loadRefusal words order)
+    (rewritten words (record { order = order; keys = loaded (slotsFor (length words)) seed count }))
+    words
 
 -- "Build 1, 2, 5, 10."
 unfoldable pub buildRefusal : List ℕ → ℕ → List ℕ → ℕ

@@ -6,6 +6,8 @@ use Rattle.call_replies.specs.declared.Refusal.{Refusal}
 use Rattle.call_replies.specs.declared.Refusal.the-variants.{WrongLength, WrongOrder, ZeroKey, LowAboveHigh, NotRising, NotAnImage, NotSound, KeyHeld, KeyAbsent, TooManyKeys, OutputTooShort}
 use Rattle.call_replies.specs.declared.SetUp.{SetUp}
 use Rattle.call_replies.specs.declared.SetUp.the-variants as set-up
+use Rattle.call_replies.specs.declared.Loaded.{Loaded}
+use Rattle.call_replies.specs.declared.Loaded.the-variants as loaded
 use Rattle.call_replies.specs.declared.Built.{Built}
 use Rattle.call_replies.specs.declared.Built.the-variants as built
 use Rattle.call_replies.specs.declared.Inserted.{Inserted}
@@ -58,6 +60,10 @@ lowest (r ∷ rs) = cond (r .applies) (r .number) (lowest rs)
 abbrev pub setUpOf : SetUp → Reply
 setUpOf set-up.Done = record { refusal = 0; numbers = [] }
 setUpOf (set-up.Refused r) = record { refusal = numberOf r; numbers = [] }
+
+abbrev pub loadedOf : Loaded → Reply
+loadedOf loaded.Done = record { refusal = 0; numbers = [] }
+loadedOf (loaded.Refused r) = record { refusal = numberOf r; numbers = [] }
 
 abbrev pub builtOf : Built → Reply
 builtOf built.Done = record { refusal = 0; numbers = [] }

@@ -54,6 +54,12 @@ pub enum SetUp {
     Refused(Refusal),
 }
 
+// The answer of a load.
+pub enum Loaded {
+    Done,
+    Refused(Refusal),
+}
+
 // The answer of a build.
 pub enum Built {
     Done,

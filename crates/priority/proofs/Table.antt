@@ -8,18 +8,19 @@ use native.Mathlib.Nat.{add-zero, zero-add, add-suc, suc-add, le-of-suc-le-suc, 
 use lib.Dec.{eqb}
 use lib.ListN.{length, getD}
 use borrow.Author.Tests.{eqb-true}
-use Rattle.priority.specs.Priority.{constantCount, increment, constantAfter, constantAt, HoldsConstants}
+use Rattle.generator.specs.Generator.{increment, next}
+use Rattle.priority.specs.Priority.{constantCount, constantAt, HoldsConstants}
 
--- The test: the first entry is `first`, and each next is the constant after the one before.
+-- The test: the first entry is `first`, and each next is the generator's after the one before.
 abbrev pub recurs : ℕ → List ℕ → Bool
 recurs first [] = true
-recurs first (entry ∷ entries) = eqb entry first && recurs (constantAfter entry) entries
+recurs first (entry ∷ entries) = eqb entry first && recurs (next entry) entries
 
 -- What the test says of the first entry, and of those after it.
 recurs-parts : (first entry : ℕ) (entries : List ℕ) → recurs first (entry ∷ entries) ≡ true
-    → (entry ≡ first) × (recurs (constantAfter first) entries ≡ true)
+    → (entry ≡ first) × (recurs (next first) entries ≡ true)
 recurs-parts first entry entries passed =
-    let both = and-eq-true-iff (eqb entry first) (recurs (constantAfter entry) entries) .0 passed in
+    let both = and-eq-true-iff (eqb entry first) (recurs (next entry) entries) .0 passed in
     let same = eqb-true entry first (both .0) in
     (same, rw same at (both .1))
 

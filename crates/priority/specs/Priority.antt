@@ -5,27 +5,17 @@ use mathlib.Core.List.{List, map, _++_}
 use Prim.Native.Nat.{ℕ, zero, suc, _+_, _*_, _/_, _%_, _^_, _<_}
 use lib.Bits.{bitXor}
 use lib.ListN.{length, drop, getD}
+use Rattle.generator.specs.Generator.{increment, next}
 
 -- "Constants E[0] to E[2047]": how many there are.
 abbrev pub constantCount : ℕ
 constantCount = 2048
 
--- E[0], which is also what each step adds.
-abbrev pub increment : ℕ
-increment = 1442695040888963407
-
--- What each step multiplies by.
-abbrev pub multiplier : ℕ
-multiplier = 6364136223846793005
-
--- "each next is 6364136223846793005 times the one before, plus 1442695040888963407, modulo 2^64"
-abbrev pub constantAfter : ℕ → ℕ
-constantAfter constant = (multiplier * constant + increment) % 2 ^ 64
-
--- "E[0] = 1442695040888963407, and each next is" the constant after "the one before": E[index].
+-- "E[0] = 1442695040888963407, and each next is 6364136223846793005 times the one before, plus 1442695040888963407, modulo 2^64", which is
+-- the generator's rule: E[index].
 unfoldable pub constantAt : ℕ → ℕ
 constantAt zero = increment
-constantAt (suc index) = constantAfter (constantAt index)
+constantAt (suc index) = next (constantAt index)
 
 -- The table has E[index] at each index of a constant.
 unfoldable pub HoldsConstants : List ℕ → Type 0

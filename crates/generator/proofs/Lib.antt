@@ -1,0 +1,2 @@
+-- Laws of products modulo 2^64.
+pub mod Products
