@@ -1,3 +1,5 @@
--- Laws that insert and delete share, one subject a file.
+-- Laws that insert, delete and a load share, one subject a file.
 pub mod Sets
 pub mod Written
+pub mod Knowing
+pub mod Loading

@@ -3,7 +3,7 @@ use mathlib.Core.Bool.{true, false, not}
 use mathlib.Core.List.{List, [], _∷_, Permᴰ·symm}
 use mathlib.Core.Logic.{_≢_}
 use mathlib.Core.Path.{_≡_}
-use Prim.Native.Nat.{ℕ, suc, _<_}
+use Prim.Native.Nat.{ℕ, suc, _<_, _≤_}
 use native.Mathlib.Omega.{arith}
 use lib.Dec.{eqb, ltb}
 use lib.ListN.{length}
@@ -23,7 +23,7 @@ module _ (key : ℕ) where
   unfolding joined
   joined-length ks = length-permuted (insertBy-permutes ltb key ks)
 
-  joined-all : (P : ℕ → Type 0) (ks : List ℕ) → P key → All P ks → All P (joined key ks)
+  pub joined-all : (P : ℕ → Type 0) (ks : List ℕ) → P key → All P ks → All P (joined key ks)
   unfolding joined
   joined-all P ks p h = all-permuted P (Permᴰ·symm (insertBy-permutes ltb key ks)) (p, h)
 
@@ -35,7 +35,7 @@ module _ (key : ℕ) where
       (λ e. rw e (or-true-left (eqb key key) (member key (k ∷ ks)) (eqb-same key)))
       (λ e. rw e (or-true-right (eqb key k) (member key (insertBy ltb key ks)) (joined-member ks)))
 
-  joined-rising : (ks : List ℕ) → Rising ks → member key ks ≡ false → Rising (joined key ks)
+  pub joined-rising : (ks : List ℕ) → Rising ks → member key ks ≡ false → Rising (joined key ks)
   unfolding joined joined-all
   joined-rising [] rising absent = (tt, tt)
   joined-rising (k ∷ ks) rising absent =
@@ -60,12 +60,20 @@ module _ (key : ℕ) where
       }
 
   -- ---- a key less
+  pub without-fewer : (ks : List ℕ) → length (without key ks) ≤ length ks
+  unfolding without
+  without-fewer ks = length-keep (λ k. not (eqb k key)) ks
+
+  pub without-all : (P : ℕ → Type 0) (ks : List ℕ) → All P ks → All P (without key ks)
+  unfolding without
+  without-all P ks h = all-keep P (λ k. not (eqb k key)) ks h
+
   pub without-valid : (many : ℕ) (c : Contents) → Valid many c → Valid many (record { order = c .order; keys = without key (c .keys) })
   unfolding without
   without-valid many c valid =
       record {
         order-right = valid .order-right;
-        keys-right = all-keep IsKey (λ k. not (eqb k key)) (c .keys) (valid .keys-right);
+        keys-right = without-all IsKey (c .keys) (valid .keys-right);
         keys-rise = pairwise-keep _<_ (λ k. not (eqb k key)) (c .keys) (valid .keys-rise);
-        keys-fit = omega (arith, valid .keys-fit, length-keep (λ k. not (eqb k key)) (c .keys));
+        keys-fit = omega (arith, valid .keys-fit, without-fewer (c .keys));
       }

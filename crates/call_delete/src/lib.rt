@@ -5,10 +5,32 @@ ghost use lib.ListN.{length};
 ghost use Rattle.table.specs.Layout.{mostSlots, tableWords};
 ghost use Rattle.call_replies.specs.Replies.{deletedOf};
 ghost use Rattle.call_meaning.specs.Calls.{deleteReply, deleteAfter};
+ghost use Rattle.call_changes.specs.Known.{Known};
 use call_replies::Deleted;
 use call_replies::Refusal;
 use table::ORDER_WORD;
+use table::SIZE_WORD;
 use table_examine::Verdict;
+
+// Delete a key from a sound table of `many` slots, its keys at the start of `keys`, as they then are again. Internal to this library's
+// crates: they have judged the table, or written it.
+pub fn delete_known(table: &mut [u64], many: usize, key: u64, keys: &mut [u64]) -> Deleted
+    requires { ⌜ Known many (now table) (now keys) ⌝ }
+    requires { ⌜ 1 ≤ key ⌝ }
+    ensures { λ r. ⌜ deletedOf r ≡ deleteReply (now (table .entry)) key ⌝ }
+    ensures { λ _. ⌜ now (table .exit) ≡ deleteAfter (now (table .entry)) key ⌝ }
+    ensures { λ _. ⌜ Known many (now (table .exit)) (now (keys .exit)) ⌝ }
+{
+    if !table_entries::holds(table, many, key) {
+        return Deleted::Refused(Refusal::KeyAbsent);
+    }
+    let n = table[SIZE_WORD] as usize;
+    let order = table[ORDER_WORD];
+    let rank = table_entries::rank_of(table, many, key);
+    let left = call_sets::take_out(keys, n, key);
+    table_write::write(order, &keys[..left], many, table);
+    Deleted::Rank(rank)
+}
 
 // Delete a key from a table of `many` slots, with `keys` to work in.
 fn delete_in(table: &mut [u64], many: usize, key: u64, keys: &mut [u64]) -> Deleted
@@ -16,18 +38,11 @@ fn delete_in(table: &mut [u64], many: usize, key: u64, keys: &mut [u64]) -> Dele
     ensures { λ r. ⌜ deletedOf r ≡ deleteReply (now (table .entry)) key ⌝ }
     ensures { λ _. ⌜ now (table .exit) ≡ deleteAfter (now (table .entry)) key ⌝ }
 {
-    let order = table[ORDER_WORD];
     let found = table_judge::examine_sized(table, many, keys);
-    let Verdict::Sound(n) = found else {
+    let Verdict::Sound(_) = found else {
         return Deleted::Refused(Refusal::NotSound);
     };
-    if !table_entries::holds(table, many, key) {
-        return Deleted::Refused(Refusal::KeyAbsent);
-    }
-    let rank = table_entries::rank_of(table, many, key);
-    let left = call_sets::take_out(keys, n, key);
-    table_write::write(order, &keys[..left], many, table);
-    Deleted::Rank(rank)
+    delete_known(table, many, key, keys)
 }
 
 // Delete a key from a table of up to 512 slots.

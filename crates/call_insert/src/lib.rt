@@ -5,10 +5,34 @@ ghost use lib.ListN.{length};
 ghost use Rattle.table.specs.Layout.{mostSlots, tableWords};
 ghost use Rattle.call_replies.specs.Replies.{insertedOf};
 ghost use Rattle.call_meaning.specs.Calls.{insertReply, insertAfter};
+ghost use Rattle.call_changes.specs.Known.{Known, RoomFor};
 use call_replies::Inserted;
 use call_replies::Refusal;
 use table::ORDER_WORD;
+use table::SIZE_WORD;
 use table_examine::Verdict;
+
+// Insert a key into a sound table of `many` slots, its keys at the start of `keys`, as they then are again. Internal to this library's
+// crates: they have judged the table, or written it.
+pub fn insert_known(table: &mut [u64], many: usize, key: u64, keys: &mut [u64]) -> Inserted
+    requires { ⌜ Known many (now table) (now keys) ⌝ }
+    requires { ⌜ (1 ≤ key) × RoomFor key many (now table) (now keys) ⌝ }
+    ensures { λ r. ⌜ insertedOf r ≡ insertReply (now (table .entry)) key ⌝ }
+    ensures { λ _. ⌜ now (table .exit) ≡ insertAfter (now (table .entry)) key ⌝ }
+    ensures { λ _. ⌜ Known many (now (table .exit)) (now (keys .exit)) ⌝ }
+{
+    if table_entries::holds(table, many, key) {
+        return Inserted::Refused(Refusal::KeyHeld);
+    }
+    let n = table[SIZE_WORD] as usize;
+    if n == many {
+        return Inserted::Refused(Refusal::TooManyKeys);
+    }
+    let order = table[ORDER_WORD];
+    call_sets::put_in(keys, n, key);
+    table_write::write(order, &keys[..n + 1], many, table);
+    Inserted::Rank(table_entries::rank_of(table, many, key))
+}
 
 // Insert a key into a table of `many` slots, with `keys` to work in.
 fn insert_in(table: &mut [u64], many: usize, key: u64, keys: &mut [u64]) -> Inserted
@@ -16,20 +40,11 @@ fn insert_in(table: &mut [u64], many: usize, key: u64, keys: &mut [u64]) -> Inse
     ensures { λ r. ⌜ insertedOf r ≡ insertReply (now (table .entry)) key ⌝ }
     ensures { λ _. ⌜ now (table .exit) ≡ insertAfter (now (table .entry)) key ⌝ }
 {
-    let order = table[ORDER_WORD];
     let found = table_judge::examine_sized(table, many, keys);
-    let Verdict::Sound(n) = found else {
+    let Verdict::Sound(_) = found else {
         return Inserted::Refused(Refusal::NotSound);
     };
-    if table_entries::holds(table, many, key) {
-        return Inserted::Refused(Refusal::KeyHeld);
-    }
-    if n == many {
-        return Inserted::Refused(Refusal::TooManyKeys);
-    }
-    call_sets::put_in(keys, n, key);
-    table_write::write(order, &keys[..n + 1], many, table);
-    Inserted::Rank(table_entries::rank_of(table, many, key))
+    insert_known(table, many, key, keys)
 }
 
 // Insert a key into a table of up to 512 slots.

@@ -1,17 +1,17 @@
--- Rising lists: the parts below and above an element, that a rising list is determined by its members, and the test by
--- neighbours. Assumes nothing.
+-- Rising lists: the parts below and above an element, that a rising list is determined by its members, the test by
+-- neighbours, and how long one between two numbers can be. Assumes nothing.
 use mathlib.Core.Bool.{Bool, true, false, _||_, _&&_}
 use mathlib.Core.List.{List, [], _∷_, _++_, append-nil}
 use mathlib.Core.Logic.{⊎-elim}
 use mathlib.Core.Path.{_≡_, refl, sym, ap, ap₂, _∙_, subst}
-use Prim.Native.Nat.{ℕ, _<_, _≤_}
+use Prim.Native.Nat.{ℕ, _+_, _<_, _≤_}
 use native.Mathlib.Omega.{arith}
 use lib.Dec.{eqb, ltb}
 use lib.ListN.{length}
 use borrow.Author.Tests.{eqb-true, ne-eqb, ltb-true, lt-ltb, le-ltb}
 use Rattle.lists.specs.Lists.{keep, All, member, Rising, risesB}
 use Rattle.lists.proofs.Tests.{by-test, true-or-false, or-true-cases, and-left, and-right, and-both}
-use Rattle.lists.proofs.Keep.{all-map, keep-append, keep-all, keep-none}
+use Rattle.lists.proofs.Keep.{all-map, all-both, keep-append, keep-all, keep-none}
 use Rattle.lists.proofs.Membership.{all-member}
 use Rattle.lists.proofs.Pairwise.{pairwise-join, pairwise-unique}
 
@@ -78,3 +78,13 @@ pub rises-when : (xs : List ℕ) → Rising xs → risesB xs ≡ true
 rises-when [] h = refl
 rises-when (x ∷ []) h = refl
 rises-when (x ∷ y ∷ ys) h = and-both (ltb x y) (risesB (y ∷ ys)) (lt-ltb x y (h .0 .0)) (rises-when (y ∷ ys) (h .1))
+
+-- a rising list of numbers above one and up to another is no longer than they are apart
+pub rising-few : (low high : ℕ) (ks : List ℕ) → low ≤ high → Rising ks → All (λ k. (low < k) × (k ≤ high)) ks → low + length ks ≤ high
+rising-few low high [] h rising all = omega arith
+rising-few low high (k ∷ ks) h rising all =
+    let rest =
+    rising-few k high ks (all .0 .1) (rising .1)
+    (all-both (λ x. k < x) (λ x. x ≤ high) ks (rising .0) (all-map (λ x. (low < x) × (x ≤ high)) (λ x. x ≤ high) (λ x q. q .1) ks (all .1)))
+    in
+    omega arith

@@ -1,0 +1,54 @@
+-- What is known of a table that is known to be sound, and of the one written after it. Assumes nothing.
+use mathlib.Core.List.{List}
+use mathlib.Core.Path.{_≡_, sym, ap, _∙_, subst}
+use Prim.Native.Nat.{ℕ, _<_, _≤_}
+use native.Mathlib.Omega.{arith}
+use lib.ListN.{length, getD, take, length-take}
+use Rattle.table.specs.Layout.{mostSlots, sizeWord, tableWords}
+use Rattle.table.specs.Contents.{Contents, Valid}
+use Rattle.table.specs.Table.{fresh, contentsOf}
+use Rattle.table.proofs.Words.{fresh-length, fresh-size}
+use Rattle.table.proofs.Soundness.{WordSized, sound-exactly, sound-valid, shown-fit}
+use Rattle.table_examine.proofs.Examined.{Examined}
+use Rattle.call_changes.specs.Known.{Known}
+use Rattle.call_changes.proofs.Written.{sound-again, shows}
+
+module _ (many : ℕ) (words keys : List ℕ) (known : Known many words keys) where
+  -- the second word is the number of keys
+  pub known-size : getD words sizeWord 0 ≡ length (contentsOf many words .keys)
+  known-size =
+      ap (λ (ws : List ℕ). getD ws sizeWord 0) (sound-exactly many words (known .sound)) ∙ fresh-size many (contentsOf many words)
+
+  pub known-valid : WordSized words → Valid many (contentsOf many words)
+  known-valid sized = sound-valid many words (known .sound) sized
+
+  pub known-most : length (contentsOf many words .keys) ≤ many
+  known-most = shown-fit many words
+
+  pub known-inside : length (contentsOf many words .keys) ≤ length keys
+  known-inside = omega (arith, length-take (length (contentsOf many words .keys)) keys, ap length (known .listed))
+
+-- a table that was examined
+pub known-examined : (many : ℕ) (words lent keys : List ℕ) (n : ℕ) → 0 < many → many ≤ mostSlots → length words ≡ tableWords many
+    → Examined many words lent keys n → Known many words keys
+known-examined many words lent keys n some most long e =
+    record {
+      some = some;
+      most = most;
+      long = long;
+      sound = e .sound;
+      listed = subst (λ (k : ℕ). take k keys ≡ contentsOf many words .keys) (e .size) (e .taken);
+    }
+
+-- a table that was written of valid contents, its keys in the list
+pub known-again : (many : ℕ) (words keys : List ℕ) (c : Contents) → 0 < many → many ≤ mostSlots → Valid many c → words ≡ fresh many c
+    → take (length (c .keys)) keys ≡ c .keys → Known many words keys
+known-again many words keys c some most valid written taken =
+    let shown = shows many c some valid words written in
+    record {
+      some = some;
+      most = most;
+      long = ap length written ∙ fresh-length many c;
+      sound = sound-again many c some valid words written;
+      listed = subst (λ (d : Contents). take (length (d .keys)) keys ≡ d .keys) (sym shown) taken;
+    }

@@ -1,0 +1,88 @@
+// A load that anyone can run again: set-up, and then operations that follow from a seed.
+ghost use mathlib.Core.Path.{_≡_};
+ghost use mathlib.Core.Bool.{true};
+ghost use mathlib.Core.List.{[]};
+ghost use Prim.Native.Nat.{_<_, _≤_};
+ghost use lib.ListN.{length};
+ghost use Rattle.lists.specs.Lists.{All};
+ghost use Rattle.table.specs.Layout.{mostSlots, tableWords};
+ghost use Rattle.table.specs.Table.{contentsOf, fresh};
+ghost use Rattle.table.specs.Sound.{soundWith};
+ghost use Rattle.call_sets.specs.Load.{IsLoadKey, chosen, done, loaded};
+ghost use Rattle.call_replies.specs.Replies.{loadedOf};
+ghost use Rattle.call_meaning.specs.Calls.{loadReply, loadAfter};
+ghost use Rattle.call_changes.specs.Known.{Known};
+use call_replies::Loaded;
+use call_replies::SetUp;
+
+// The keys are 1 to this.
+const KEY_COUNT: usize = 512;
+
+// A state divided by 2^32 gives the key, divided by 2^62 the choice.
+const KEY_DIVISOR: u64 = 4294967296;
+
+const CHOICE_DIVISOR: u64 = 4611686018427387904;
+
+// The choice of a delete; one below it is an insert, one above it a lookup.
+const DELETE: u64 = 2;
+
+// Do the operation that a state chooses, on a sound table of `many` slots with its keys at the start of `keys`. A refused one changes
+// nothing; what it answers is not reported.
+fn operate(table: &mut [u64], many: usize, state: u64, keys: &mut [u64])
+    requires { ⌜ Known many (now table) (now keys) ⌝ }
+    requires { ⌜ All IsLoadKey (contentsOf many (now table) .keys) × (512 ≤ length (now keys)) ⌝ }
+    ensures { λ _. ⌜ Known many (now (table .exit)) (now (keys .exit)) ⌝ }
+    ensures { λ _. ⌜ contentsOf many (now (table .exit)) ≡ record { order = contentsOf many (now (table .entry)) .order; keys = done many (chosen state) (contentsOf many (now (table .entry)) .keys) } ⌝ }
+{
+    let key = state / KEY_DIVISOR % KEY_COUNT as u64 + 1;
+    let choice = state / CHOICE_DIVISOR;
+    if choice < DELETE {
+        call_insert::insert_known(table, many, key, keys);
+        return;
+    }
+    if choice == DELETE {
+        call_delete::delete_known(table, many, key, keys);
+        return;
+    }
+    table_descend::look_up(table, many, key);
+}
+
+// Do `count` operations after a seed, on a blank table of `many` slots, with `keys` to work in.
+fn operate_all(table: &mut [u64], many: usize, seed: u64, count: u16, keys: &mut [u64])
+    requires { ⌜ (0 < many) × (many ≤ mostSlots) × (length (now table) ≡ tableWords many) × (soundWith many (now table) ≡ true) ⌝ }
+    requires { ⌜ (contentsOf many (now table) .keys ≡ []) × (512 ≤ length (now keys)) ⌝ }
+    ensures { λ _. ⌜ now (table .exit) ≡ fresh many (record { order = contentsOf many (now (table .entry)) .order; keys = loaded many seed count }) ⌝ }
+{
+    let mut state = seed;
+    let mut left = count;
+    while 0 < left {
+        let stepped = generator::next(state);
+        operate(table, many, stepped, keys);
+        state = stepped;
+        left -= 1;
+    }
+}
+
+// The same, with room for as many keys as a load has.
+fn operate_within(table: &mut [u64], many: usize, seed: u64, count: u16)
+    requires { ⌜ (0 < many) × (many ≤ mostSlots) × (length (now table) ≡ tableWords many) × (soundWith many (now table) ≡ true) ⌝ }
+    requires { ⌜ contentsOf many (now table) .keys ≡ [] ⌝ }
+    ensures { λ _. ⌜ now (table .exit) ≡ fresh many (record { order = contentsOf many (now (table .entry)) .order; keys = loaded many seed count }) ⌝ }
+{
+    let mut keys = [0u64; KEY_COUNT];
+    operate_all(table, many, seed, count, &mut keys);
+}
+
+// Make of any words of a right length the table of an order and of the keys that `count` operations after a seed leave. Refusals: 1, 2.
+pub fn load(table: &mut [u64], order: u64, seed: u64, count: u16) -> Loaded
+    ensures { λ r. ⌜ loadedOf r ≡ loadReply (now (table .entry)) order ⌝ }
+    ensures { λ _. ⌜ now (table .exit) ≡ loadAfter (now (table .entry)) order seed count ⌝ }
+{
+    let many = table_limits::slots_for(table.len());
+    let begun = call_build::set_up(table, order);
+    if let SetUp::Refused(reason) = begun {
+        return Loaded::Refused(reason);
+    }
+    operate_within(table, many, seed, count);
+    Loaded::Done
+}
