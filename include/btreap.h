@@ -5,8 +5,8 @@
  * have equal images exactly when their orders and sets are equal.
  *
  * The table.  BTREAP_TABLE_WORDS(M), that is 3 + 6*M words, for M slots, 1 to 4,096; it holds up to M keys. Make one of any words
- *             with btreap_set_up, btreap_build or btreap_read; then do not write to it but by these calls.
- * The order.  3 to 255, chosen at set-up or build: a block of the tree has up to about twice that many keys.
+ *             with btreap_set_up, btreap_build, btreap_read or btreap_load; then do not write to it but by these calls.
+ * The order.  3 to 255, chosen at set-up, build or load: a block of the tree has up to about twice that many keys.
  * The image.  15 + 14*b + 30*n bytes for n keys in b blocks; no image is longer than BTREAP_LONGEST_IMAGE = 180,239 bytes.
  *
  * Any words, numbers and bytes may be handed in: each call replies, and a call that refuses changes none of the lent memory. `refusal` is
@@ -85,6 +85,12 @@ uint64_t btreap_set_up(uint64_t *table, size_t words, uint64_t order);
 
 /* Make of any words the table of an order and of n strictly rising keys. Gives the refusal: 1, 2, 5, 10. */
 uint64_t btreap_build(uint64_t *table, size_t words, uint64_t order, const uint64_t *keys, size_t n);
+
+/* Make of any words the blank table of an order, and do on it count operations that the seed alone determines: a load that anyone can run
+ * again. Each operation first sets seed to 6364136223846793005 * seed + 1442695040888963407, modulo 2^64. Its key is then
+ * (seed >> 32) % 512 + 1, and seed >> 62 chooses: 0 or 1 insert, 2 delete, 3 lookup. An operation that is turned down counts as done; what
+ * the operations reply is not given. The table is the one that btreap_set_up and as many calls would leave. Gives the refusal: 1, 2. */
+uint64_t btreap_load(uint64_t *table, size_t words, uint64_t order, uint64_t seed, uint16_t count);
 
 /* Insert a key; the rank that it then has. Refusals: 1, 3, 7, 8, 10. */
 struct btreap_ranked btreap_insert(uint64_t *table, size_t words, uint64_t key);

@@ -2,6 +2,7 @@
 //! do the same on it, or their times would not be times of one job.
 
 use crate::case::{Case, ORDER};
+use crate::load;
 use btreap::Found;
 use reference::fast;
 
@@ -29,6 +30,24 @@ pub fn check(case: &Case, table: &[u64], image: &[u8]) {
             |t| btreap::delete(t, key),
             |t| fast::delete(t, key).rank,
         );
+    }
+}
+
+/// The same for the load, the separate calls and the set. Separate calls take
+/// long, and are made for a part of the load.
+pub fn check_load() {
+    for count in [load::COUNT / 16, load::COUNT] {
+        let (mut one, mut other) = (load::words(), load::words());
+        load::by_library(&mut one, count);
+        fast::load(&mut other, ORDER, load::SEED, count);
+        assert!(one == other, "load differs");
+        let keys: Vec<u64> = load::by_set(count).into_iter().collect();
+        fast::build(&mut other, ORDER, &keys);
+        assert!(one == other, "the set differs");
+        if count < load::COUNT {
+            load::by_separate_calls(&mut other, count);
+            assert!(one == other, "separate calls differ");
+        }
     }
 }
 

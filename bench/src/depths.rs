@@ -7,6 +7,10 @@ use btreap::{Place, Refusal, LONGEST_IMAGE, MOST_SLOTS};
 use reference::random::splitmix;
 use std::collections::BTreeSet;
 
+/// The operations of the load: more than it takes for the table to be full, or
+/// as full as loads make it.
+const LOAD: u16 = 5_000;
+
 /// Measures every call at the greatest table and at a small one, and prints it.
 pub fn print() {
     let great = depths(MOST_SLOTS);
@@ -31,6 +35,7 @@ fn depths(slots: usize) -> Vec<(&'static str, usize)> {
     let mut measure = |call, job: &mut dyn FnMut()| depths.push((call, depth(job)));
     measure("(no call)", &mut || ());
     measure("set_up", &mut || done(btreap::set_up(t, ORDER)));
+    measure("load", &mut || done(btreap::load(t, ORDER, 1, LOAD)));
     measure("build", &mut || done(btreap::build(t, ORDER, &keys)));
     measure("delete", &mut || done(btreap::delete(t, key)));
     measure("insert", &mut || done(btreap::insert(t, key)));

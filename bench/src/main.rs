@@ -6,6 +6,7 @@ mod candidates;
 mod case;
 mod clock;
 mod depths;
+mod load;
 mod plain;
 mod report;
 mod rows;

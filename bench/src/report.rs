@@ -2,6 +2,7 @@
 
 use crate::agree;
 use crate::case::{self, Case, ORDER};
+use crate::load;
 use crate::rows::{Lent, Row};
 use crate::timing::least;
 
@@ -13,6 +14,7 @@ pub fn print() {
     );
     println!("(c) a `BTreeSet<u64>`, serialised whole and compared with a stored copy.");
     case::all().iter().for_each(print_case);
+    print_load();
 }
 
 /// The rows of a case. Reading the words is one job for all of them, so that its
@@ -42,6 +44,24 @@ fn print_case(case: &Case) {
         lent.table.len(),
         figures(words / 1000.0)
     );
+}
+
+/// The load, whose times are in milliseconds, and the candidates for it.
+fn print_load() {
+    agree::check_load();
+    let [ours, separate, fast, plain] = load::times().map(|time| time / 1e6);
+    println!("\n### Load, M = {}\n", load::SLOTS);
+    println!("| operations | ms | × (b) | × (c) | × separate calls |");
+    println!("|---|---:|---:|---:|---:|");
+    let ratios = [fast, plain, separate].map(|other| figures(ours / other));
+    let ours = figures(ours);
+    println!("| {} | {ours} | {} |", load::COUNT, ratios.join(" | "));
+    let others = [fast, plain, separate].map(figures);
+    println!(
+        "\n(b) takes {} ms, (c) {} ms, the library's set_up and as many separate calls {} ms;",
+        others[0], others[1], others[2]
+    );
+    println!("each is the least of {} rounds.", load::ROUNDS);
 }
 
 /// A number with three figures or so.

@@ -41,16 +41,28 @@ pub fn least<const N: usize>(mut candidates: [Candidate; N]) -> [f64; N] {
     let repeats: Vec<usize> = candidates.iter_mut().map(repeats_of).collect();
     let mut least = [f64::INFINITY; N];
     let start = Instant::now();
-    for round in 0..MOST_ROUNDS {
-        if round >= LEAST_ROUNDS && start.elapsed() > ROW {
+    for turn in 0..MOST_ROUNDS {
+        if turn >= LEAST_ROUNDS && start.elapsed() > ROW {
             break;
         }
-        for ((candidate, &repeats), least) in candidates.iter_mut().zip(&repeats).zip(&mut least) {
-            let time = candidate(round, repeats).as_nanos() as f64 / repeats as f64;
-            *least = least.min(time);
-        }
+        round(&mut candidates, turn, &repeats, &mut least);
     }
     least
+}
+
+/// The same for jobs that take seconds: so many rounds, once in each.
+pub fn least_of_rounds<const N: usize>(mut candidates: [Candidate; N], rounds: usize) -> [f64; N] {
+    let mut least = [f64::INFINITY; N];
+    (0..rounds).for_each(|turn| round(&mut candidates, turn, &[1; N], &mut least));
+    least
+}
+
+/// Every candidate has its turn.
+fn round(candidates: &mut [Candidate], turn: usize, repeats: &[usize], least: &mut [f64]) {
+    for ((candidate, &repeats), least) in candidates.iter_mut().zip(repeats).zip(least) {
+        let time = candidate(turn, repeats).as_nanos() as f64 / repeats as f64;
+        *least = least.min(time);
+    }
 }
 
 /// How often a candidate repeats its job in a sample, by a first try.

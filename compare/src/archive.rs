@@ -68,6 +68,9 @@ impl Lent {
             match *call {
                 Call::SetUp { order } => plain(sys::btreap_set_up(t, n, order)),
                 Call::Build { order, .. } => plain(sys::btreap_build(t, n, order, keys, number)),
+                Call::Load { order, seed, count } => {
+                    plain(sys::btreap_load(t, n, order, seed, count))
+                }
                 Call::Insert { key } => ranked(sys::btreap_insert(t, n, key)),
                 Call::Delete { key } => ranked(sys::btreap_delete(t, n, key)),
                 Call::LookUp { key } => found(sys::btreap_lookup(t, n, key)),

@@ -1,4 +1,4 @@
-//! The ten calls, each with all that it is given but the table.
+//! The eleven calls, each with all that it is given but the table.
 
 use crate::pages::Access;
 use reference::calls;
@@ -35,6 +35,7 @@ impl Place {
 pub enum Call {
     SetUp { order: u64 },
     Build { order: u64, list: Vec<u64> },
+    Load { order: u64, seed: u64, count: u16 },
     Insert { key: u64 },
     Delete { key: u64 },
     LookUp { key: u64 },
@@ -50,7 +51,7 @@ impl Call {
     pub fn table_access(&self) -> Access {
         match self {
             Call::SetUp { .. } | Call::Build { .. } | Call::Read { .. } => Access::Write,
-            Call::Insert { .. } | Call::Delete { .. } => Access::Write,
+            Call::Load { .. } | Call::Insert { .. } | Call::Delete { .. } => Access::Write,
             Call::LookUp { .. } | Call::Range { .. } | Call::Step { .. } => Access::Read,
             Call::Write { .. } | Call::List { .. } => Access::Read,
         }
@@ -108,6 +109,9 @@ impl fmt::Debug for Call {
             Call::SetUp { order } => write!(out, "set-up, order {order}"),
             Call::Build { order, list } => {
                 write!(out, "build, order {order}, list {}", short(list))
+            }
+            Call::Load { order, seed, count } => {
+                write!(out, "load, order {order}, {count} operations from {seed}")
             }
             Call::Insert { key } => write!(out, "insert {key}"),
             Call::Delete { key } => write!(out, "delete {key}"),

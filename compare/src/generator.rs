@@ -7,10 +7,10 @@ use crate::random::Random;
 use crate::tables::{image_of, keys_in, listing_length};
 
 /// How many of a hundred calls are of each kind.
-const SHARES: [(usize, Kind); 10] = [
+const SHARES: [(usize, Kind); 11] = [
     (20, Kind::Insert),
     (16, Kind::Delete),
-    (14, Kind::Step),
+    (12, Kind::Step),
     (12, Kind::LookUp),
     (10, Kind::Range),
     (8, Kind::Write),
@@ -18,12 +18,14 @@ const SHARES: [(usize, Kind); 10] = [
     (6, Kind::Build),
     (5, Kind::List),
     (2, Kind::SetUp),
+    (2, Kind::Load),
 ];
 
 #[derive(Clone, Copy)]
 enum Kind {
     SetUp,
     Build,
+    Load,
     Insert,
     Delete,
     LookUp,
@@ -74,6 +76,7 @@ impl Generator {
                 order: order(random),
                 list: self.list(random),
             },
+            Kind::Load => load(order(random), random),
             Kind::Insert => Call::Insert {
                 key: self.key(&held, 4, random),
             },
@@ -193,6 +196,18 @@ fn order(random: &mut Random) -> u64 {
         0 => random.pick(&BAD_ORDERS),
         _ => random.order(),
     }
+}
+
+/// A load of that order, mostly a short one; its seed is any, or one of the ends.
+pub fn load(order: u64, random: &mut Random) -> Call {
+    let seed = match random.below(10) {
+        0 => 0,
+        1 => u64::MAX,
+        _ => random.number(),
+    };
+    let most = random.pick(&[1, 3, 20, 20, 100, 100, 500, 2_000]);
+    let count = random.below(most + 1) as u16;
+    Call::Load { order, seed, count }
 }
 
 /// An end of a range: a held key or a neighbour of one, or any number.

@@ -10,6 +10,9 @@ pub fn run_second_program(call: &Call, table: &[u64]) -> Outcome {
     after.reply = match call {
         Call::SetUp { order } => plain(REAL.set_up(&mut after.table, *order)),
         Call::Build { order, list } => plain(REAL.build(&mut after.table, *order, list)),
+        Call::Load { order, seed, count } => {
+            plain(REAL.load(&mut after.table, *order, *seed, *count))
+        }
         Call::Insert { key } => ranked(REAL.insert(&mut after.table, *key)),
         Call::Delete { key } => ranked(REAL.delete(&mut after.table, *key)),
         Call::LookUp { key } => found(REAL.look_up(table, *key)),

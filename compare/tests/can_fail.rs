@@ -13,7 +13,7 @@ use compare::second_program::run_second_program;
 use compare::tables::listing_length;
 
 /// One of each kind that is refused, on a table that is not one.
-fn refused_calls() -> [Call; 10] {
+fn refused_calls() -> [Call; 11] {
     let mut calls = accepted_calls();
     calls[9] = Call::List {
         image: vec![0; 20],

@@ -93,6 +93,7 @@ fn a_write_is_fatal_to_what_the_call_only_reads() {
             call,
             Call::SetUp { .. }
                 | Call::Build { .. }
+                | Call::Load { .. }
                 | Call::Insert { .. }
                 | Call::Delete { .. }
                 | Call::Read { .. }

@@ -52,6 +52,21 @@ static void print_keys(const uint64_t *table)
     printf("\n");
 }
 
+/* Both run one load, in tables of different sizes, and compare images. */
+static void compare_loads(void)
+{
+    static uint64_t small[BTREAP_TABLE_WORDS(600)], large[BTREAP_TABLE_WORDS(4096)];
+    static uint8_t one[BTREAP_LONGEST_IMAGE], other[BTREAP_LONGEST_IMAGE];
+    accept("load", btreap_load(small, BTREAP_TABLE_WORDS(600), 16, 2026, 1000));
+    accept("load", btreap_load(large, BTREAP_TABLE_WORDS(4096), 16, 2026, 1000));
+    struct btreap_sized sent = btreap_write(small, BTREAP_TABLE_WORDS(600), one, sizeof one);
+    struct btreap_sized kept = btreap_write(large, BTREAP_TABLE_WORDS(4096), other, sizeof other);
+    accept("write", sent.refusal);
+    accept("write", kept.refusal);
+    printf("image of the load: %" PRIu64 " bytes\n", sent.size);
+    printf("images agree: %s\n", sent.size == kept.size && memcmp(one, other, sent.size) == 0 ? "yes" : "no");
+}
+
 int main(void)
 {
     static uint64_t first[WORDS], second[WORDS], third[WORDS];
@@ -83,5 +98,7 @@ int main(void)
     struct btreap_sized listed = btreap_list(other, kept.size, text, sizeof text);
     accept("list", listed.refusal);
     fwrite(text, 1, listed.size, stdout);
+
+    compare_loads();
     return 0;
 }

@@ -1,10 +1,12 @@
-//! The calls of document 01, each with its refusals. "A refusal returns its
-//! number, all other numbers zero, and changes no lent memory, the place
-//! included. The lowest number that applies is returned."
+//! The calls of document 01 and the load of document 02, each with its
+//! refusals. "A refusal returns its number, all other numbers zero, and changes
+//! no lent memory, the place included. The lowest number that applies is
+//! returned."
 
 use crate::blocks::blocks_met;
 use crate::image::{contents_of, image};
 use crate::listing::listing;
+use crate::load::end_set;
 use crate::priority::{priority, Priority};
 use crate::table::{self, shape_of, slots_of_length, words};
 use crate::{is_order, Contents};
@@ -33,7 +35,7 @@ pub const TOO_MANY: u64 = 10;
 /// 11. The output slice is shorter than the output.
 pub const OUTPUT_SHORT: u64 = 11;
 
-/// Reply of set-up, build and reading: "A call for which no number is named
+/// Reply of set-up, build, reading and load: "A call for which no number is named
 /// gives none when accepted." Refusal 0 is acceptance, here and below.
 #[derive(Clone, Copy, Debug, Default, PartialEq, Eq)]
 pub struct PlainReply {
@@ -176,6 +178,21 @@ impl Index<'_> {
         refuse_if(!is_rising(list), NOT_RISING)?;
         refuse_if(list.len() > m, TOO_MANY)?;
         let keys = list.to_vec();
+        self.write(table, m, &Contents { order, keys });
+        Ok(())
+    }
+
+    /// "A load sets up the table with a given order, then does 0 to 65,535
+    /// operations, a 16-bit count" "the checks are 1, 2" The table is made afresh
+    /// from the end set.
+    pub fn load(&self, table: &mut [u64], order: u64, seed: u64, count: u16) -> PlainReply {
+        plain(self.try_load(table, order, seed, count))
+    }
+
+    fn try_load(&self, table: &mut [u64], order: u64, seed: u64, count: u16) -> Outcome<()> {
+        let m = slots(table)?;
+        refuse_if(!is_order(order), ORDER)?;
+        let keys = end_set(m, seed, count).into_iter().collect();
         self.write(table, m, &Contents { order, keys });
         Ok(())
     }

@@ -1,5 +1,6 @@
-//! The second program: the index of document 01, written from that document
-//! alone. Slow and literal; it is there to be compared with.
+//! The second program: the index of document 01 with the load of document 02,
+//! written from these documents alone. Slow and literal; it is there to be
+//! compared with.
 //!
 //! The priority is a parameter of every definition, so that the document's
 //! examples, which write their own priorities, can be computed too.
@@ -9,6 +10,7 @@ pub mod calls;
 pub mod fast;
 pub mod image;
 pub mod listing;
+pub mod load;
 pub mod priority;
 pub mod random;
 pub mod shape;

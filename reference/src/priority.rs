@@ -8,12 +8,18 @@ const fn constants() -> [u64; 2048] {
     let mut all = [1442695040888963407u64; 2048];
     let mut i = 1;
     while i < 2048 {
-        all[i] = all[i - 1]
-            .wrapping_mul(6364136223846793005)
-            .wrapping_add(1442695040888963407);
+        all[i] = next(all[i - 1]);
         i += 1;
     }
     all
+}
+
+/// The number after a number by the rule of the constants, which is the rule of
+/// a load's numbers too (document 02, N1).
+pub const fn next(number: u64) -> u64 {
+    number
+        .wrapping_mul(6364136223846793005)
+        .wrapping_add(1442695040888963407)
 }
 
 /// "The priority P(k) is the exclusive or of E[256·j + byte j of k] for j = 0

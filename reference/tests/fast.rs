@@ -46,6 +46,17 @@ fn build(table: &mut Vec<u64>, order: u64, list: &[u64]) -> u64 {
     reply.refusal
 }
 
+fn load(table: &mut Vec<u64>, order: u64, seed: u64, count: u16) -> u64 {
+    let (reply, words) = after(table, |t| REAL.load(t, order, seed, count));
+    assert_eq!(
+        after(table, |t| fast::load(t, order, seed, count)),
+        (reply, words.clone()),
+        "load of {count} from {seed}"
+    );
+    *table = words;
+    reply.refusal
+}
+
 fn insert(table: &mut Vec<u64>, key: u64) -> u64 {
     let (reply, words) = after(table, |t| REAL.insert(t, key));
     assert_eq!(
@@ -136,7 +147,7 @@ fn steps(table: &[u64], mut place: Place) {
 fn play(random: &mut Random, table: &mut Vec<u64>, slots: u64) {
     let key = [0, random.key(2 * slots + 2), random.key(2 * slots + 2)][random.below(3) as usize];
     let other = random.key(2 * slots + 2);
-    match random.below(20) {
+    match random.below(21) {
         0..=5 => drop(insert(table, key)),
         6..=9 => drop(delete(table, key)),
         10 | 11 => drop(look_up(table, key)),
@@ -147,9 +158,7 @@ fn play(random: &mut Random, table: &mut Vec<u64>, slots: u64) {
             list(&bytes, 100 + 80 * bytes.len());
             read(table, &bytes);
         }
-        15 => {
-            write(table, random.below(60 * slots) as usize);
-        }
+        15 => drop(write(table, random.below(60 * slots) as usize)),
         16 => {
             let keys = random.keys(slots + 1);
             build(table, 2 + random.below(5), &keys);
@@ -166,7 +175,11 @@ fn play(random: &mut Random, table: &mut Vec<u64>, slots: u64) {
             read(table, &bytes);
             list(&bytes, random.below(3_000) as usize);
         }
-        _ => drop(set_up(table, 2 + random.below(255))),
+        19 => drop(set_up(table, 2 + random.below(255))),
+        _ => {
+            let (order, count) = (2 + random.below(5), random.below(8 * slots));
+            load(table, order, random.next(), count as u16);
+        }
     }
 }
 
@@ -212,6 +225,36 @@ fn all_sets_over_a_small_universe() {
         random.shuffle(&mut keys);
         keys.iter()
             .for_each(|&key| assert_eq!(delete(&mut table, key), 0));
+    }
+}
+
+// ---------------------------------------------------------------------------
+// Loads
+
+/// Every small count: each load has one operation more than the one before.
+#[test]
+fn loads_of_every_small_count() {
+    for slots in [1, 2, 3, 7, 64] {
+        let mut table = vec![5; length_of_slots(slots)];
+        for seed in [0, u64::MAX, 12345] {
+            (0..120).for_each(|count| assert_eq!(load(&mut table, 3, seed, count), 0));
+        }
+    }
+}
+
+/// Long loads where the table is full nearly always, about as often as not, and
+/// never.
+#[test]
+fn long_loads() {
+    let mut random = Random(350);
+    for slots in [1, 3, 64, 100, 300, 340, 350, 512, 4096] {
+        for order in [3, 16, 255] {
+            let mut table = vec![random.next(); length_of_slots(slots)];
+            let count = 3_000 + random.below(9_000) as u16;
+            assert_eq!(load(&mut table, order, random.next(), count), 0);
+        }
+        let mut table = vec![0; length_of_slots(slots)];
+        assert_eq!(load(&mut table, 5, random.next(), u16::MAX), 0);
     }
 }
 
@@ -466,6 +509,7 @@ fn every_refusal() {
         let mut wrong = vec![0; length];
         assert_eq!(set_up(&mut wrong, 2), 1);
         assert_eq!(build(&mut wrong, 2, &[0]), 1);
+        assert_eq!(load(&mut wrong, 2, 7, 3), 1);
         assert_eq!(insert(&mut wrong, 0), 1);
         assert_eq!(delete(&mut wrong, 0), 1);
         assert_eq!(look_up(&wrong, 0), 1);
@@ -477,6 +521,7 @@ fn every_refusal() {
     for order in [0, 1, 2, 256, u64::MAX] {
         assert_eq!(set_up(&mut table, order), 2);
         assert_eq!(build(&mut table, order, &[0, 0]), 2);
+        assert_eq!(load(&mut table, order, 7, 3), 2);
     }
     assert_eq!(insert(&mut table, 0), 3);
     assert_eq!(delete(&mut table, 0), 3);

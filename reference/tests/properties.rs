@@ -6,6 +6,7 @@ mod common;
 use common::Random;
 use reference::calls::{Index, LookUpReply, Place, REAL};
 use reference::image::image;
+use reference::load::end_set;
 use reference::priority::priority;
 use reference::table::{length_of_slots, words};
 use reference::Contents;
@@ -251,7 +252,7 @@ fn play(
     book: &mut BTreeSet<u64>,
 ) {
     let key = random.below(16);
-    match random.below(12) {
+    match random.below(13) {
         0..=4 => {
             let expected = match () {
                 _ if key == 0 => 3,
@@ -304,6 +305,7 @@ fn play(
                 *book = keys.into_iter().collect();
             }
         }
+        11 => play_load(random, index, table, m, order, book),
         _ => {
             let keys = random.keys(10);
             let read = Contents { order: 4, keys };
@@ -315,6 +317,25 @@ fn play(
                 *book = read.keys.into_iter().collect();
             }
         }
+    }
+}
+
+/// A load, of an order that is none now and then.
+fn play_load(
+    random: &mut Random,
+    index: &Index,
+    table: &mut [u64],
+    m: usize,
+    order: &mut u64,
+    book: &mut BTreeSet<u64>,
+) {
+    let (seed, count) = (random.next(), random.below(40) as u16);
+    let new_order = 2 + random.below(3);
+    let expected = if new_order < 3 { 2 } else { 0 };
+    assert_eq!(index.load(table, new_order, seed, count).refusal, expected);
+    if expected == 0 {
+        *order = new_order;
+        *book = end_set(m, seed, count);
     }
 }
 

@@ -125,6 +125,16 @@ pub fn build(table: &mut [u64], order: u64, keys: &[u64]) -> Result<(), Refusal>
     unless_refused(refusal, ())
 }
 
+/// Make of any words the blank table of an order, and do on it `count` operations that the seed alone determines: a load that anyone can
+/// run again. Each operation first sets `seed` to 6364136223846793005·seed + 1442695040888963407, modulo 2^64. Its key is then
+/// `(seed >> 32) % 512 + 1`, and `seed >> 62` chooses: 0 or 1 insert, 2 delete, 3 lookup. An operation that is turned down counts as done.
+/// Refusals: 1, 2.
+pub fn load(table: &mut [u64], order: u64, seed: u64, count: u16) -> Result<(), Refusal> {
+    // SAFETY: as in `set_up`.
+    let refusal = unsafe { sys::btreap_load(table.as_mut_ptr(), table.len(), order, seed, count) };
+    unless_refused(refusal, ())
+}
+
 /// Insert a key; the rank that it then has. Refusals: 1, 3, 7, 8, 10.
 pub fn insert(table: &mut [u64], key: u64) -> Result<u64, Refusal> {
     // SAFETY: as in `set_up`.

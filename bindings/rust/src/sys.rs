@@ -43,6 +43,7 @@ pub struct SteppedReply {
 extern "C" {
     pub fn btreap_set_up(table: *mut u64, words: usize, order: u64) -> u64;
     pub fn btreap_build(table: *mut u64, words: usize, order: u64, keys: *const u64, n: usize) -> u64;
+    pub fn btreap_load(table: *mut u64, words: usize, order: u64, seed: u64, count: u16) -> u64;
     pub fn btreap_insert(table: *mut u64, words: usize, key: u64) -> RankedReply;
     pub fn btreap_delete(table: *mut u64, words: usize, key: u64) -> RankedReply;
     pub fn btreap_lookup(table: *const u64, words: usize, key: u64) -> FoundReply;

@@ -1,6 +1,7 @@
 //! The wrapper says of each call what the library replies.
 
 use btreap::{Found, Place, Refusal};
+use std::collections::BTreeSet;
 
 const SLOTS: usize = 3;
 
@@ -39,6 +40,72 @@ fn each_refusal_has_its_number() {
     assert_eq!(refused[10].to_string(), "the output is too short");
     assert_eq!(table, table_of(&[5, 7]));
     assert_eq!(full, table_of(&[5, 7, 9]));
+}
+
+/// All keys of a table.
+fn keys_of(table: &[u64]) -> Vec<u64> {
+    let mut keys = vec![0; table.len()];
+    let number = btreap::range(table, 0, u64::MAX, &mut keys).unwrap();
+    keys.truncate(number);
+    keys
+}
+
+/// What a load leaves in so many slots, reckoned without a table, in numbers that have room for the product.
+fn keys_by_the_rules(slots: usize, seed: u64, count: u16) -> Vec<u64> {
+    let (mut set, mut s) = (BTreeSet::new(), u128::from(seed));
+    for _ in 0..count {
+        s = (6364136223846793005 * s + 1442695040888963407) % (1 << 64);
+        let key = (s / (1 << 32) % 512 + 1) as u64;
+        match s / (1 << 62) {
+            0 | 1 if set.len() < slots => _ = set.insert(key),
+            2 => _ = set.remove(&key),
+            _ => (),
+        }
+    }
+    set.into_iter().collect()
+}
+
+/// From seed 0 the numbers begin 14057B7E.., 1A08EE11.., 9AF67822..: insert 17E + 1, insert 11 + 1, delete 22 + 1, hexadecimal.
+#[test]
+fn a_load_of_three_operations() {
+    for (slots, keys) in [(1, vec![383]), (2, vec![18, 383]), (64, vec![18, 383])] {
+        let mut table = vec![7; btreap::table_words(slots)];
+        assert_eq!(btreap::load(&mut table, 3, 0, 3), Ok(()));
+        assert_eq!(keys_of(&table), keys);
+    }
+}
+
+#[test]
+fn a_load_over_any_words_is_a_build_of_what_it_leaves() {
+    for slots in [1, 7, 300, 600] {
+        for (seed, count) in [(0, 1), (u64::MAX, 2), (2026, 100), (1 << 63, 5000)] {
+            let mut loaded = vec![seed ^ 77; btreap::table_words(slots)];
+            let mut built = vec![99; loaded.len()];
+            btreap::load(&mut loaded, 5, seed, count).unwrap();
+            btreap::build(&mut built, 5, &keys_by_the_rules(slots, seed, count)).unwrap();
+            assert_eq!(loaded, built);
+        }
+    }
+}
+
+#[test]
+fn a_load_of_nothing_leaves_the_blank_table() {
+    let (mut loaded, mut blank) = (table_of(&[5, 7]), unsound());
+    btreap::load(&mut loaded, 255, 12345, 0).unwrap();
+    btreap::set_up(&mut blank, 255).unwrap();
+    assert_eq!(loaded, blank);
+}
+
+#[test]
+fn a_refused_load_leaves_the_words() {
+    let mut table = unsound();
+    for order in [0, 2, 256, u64::MAX] {
+        assert_eq!(btreap::load(&mut table[1..], order, 1, 10), Err(Refusal::WrongLength));
+        assert_eq!(btreap::load(&mut table, order, 1, 10), Err(Refusal::WrongOrder));
+    }
+    assert_eq!(btreap::load(&mut table[1..], 3, 1, 10), Err(Refusal::WrongLength));
+    assert_eq!(btreap::load(&mut [], 3, 1, 0), Err(Refusal::WrongLength));
+    assert_eq!(table, unsound());
 }
 
 #[test]

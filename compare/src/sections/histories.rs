@@ -1,10 +1,10 @@
-//! Random histories: a set-up over any words, then calls of all ten kinds on
-//! one table.
+//! Random histories: a set-up or a load over any words, then calls of all eleven
+//! kinds on one table.
 
 use super::{exercise, Section, SLOTS};
 use crate::call::Call;
 use crate::case::{Case, Tally};
-use crate::generator::Generator;
+use crate::generator::{load, Generator};
 
 pub const SECTION: Section = Section {
     name: "histories",
@@ -36,7 +36,11 @@ fn run(tally: &mut Tally) {
 fn history(case: &mut Case, slots: usize, calls: usize) {
     exercise::lend_rubbish(case, slots);
     let order = case.random.order();
-    case.refused(Call::SetUp { order }, 0);
+    let first = match case.random.below(4) {
+        0 => load(order, &mut case.random),
+        _ => Call::SetUp { order },
+    };
+    case.refused(first, 0);
     if slots > 3 {
         let number = case.random.fill(slots);
         let list = case.random.keys(number);

@@ -39,12 +39,17 @@ fn each_call(case: &mut Case, length: usize) {
 }
 
 /// One of each kind that a blank table of any length accepts.
-fn sensible_calls() -> [Call; 8] {
+fn sensible_calls() -> [Call; 9] {
     [
         Call::SetUp { order: 255 },
         Call::Build {
             order: 4,
             list: vec![7],
+        },
+        Call::Load {
+            order: 5,
+            seed: 11,
+            count: 13,
         },
         Call::Insert { key: u64::MAX },
         Call::LookUp { key: 1 },

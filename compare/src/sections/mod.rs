@@ -14,6 +14,7 @@ mod histories;
 mod homes;
 mod lengths;
 mod listings;
+mod loads;
 mod long;
 mod refusals;
 mod sets;
@@ -31,7 +32,8 @@ pub struct Section {
 }
 
 /// All sections; the longest first, so that threads finish together.
-pub const SECTIONS: [Section; 18] = [
+pub const SECTIONS: [Section; 19] = [
+    loads::SECTION,
     histories::SECTION,
     sets::SECTION,
     chains::SECTION,

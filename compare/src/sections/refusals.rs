@@ -63,7 +63,7 @@ struct Kind {
     call: fn(&Faults) -> Call,
 }
 
-const KINDS: [Kind; 10] = [
+const KINDS: [Kind; 11] = [
     Kind {
         refusals: &[1, 2],
         call: set_up,
@@ -91,6 +91,10 @@ const KINDS: [Kind; 10] = [
     Kind {
         refusals: &[1, 2, 5, 10],
         call: build,
+    },
+    Kind {
+        refusals: &[1, 2],
+        call: load,
     },
     Kind {
         refusals: &[1, 7, 11],
@@ -172,6 +176,12 @@ fn build(faults: &Faults) -> Call {
     }
     let order = order(faults);
     Call::Build { order, list }
+}
+
+fn load(faults: &Faults) -> Call {
+    let (order, seed) = (order(faults), faults.pick(&[0, u64::MAX, 7, 1 << 63, 2]));
+    let count = faults.pick(&[0, 1, 2, 5, 100, 999]);
+    Call::Load { order, seed, count }
 }
 
 fn insert(faults: &Faults) -> Call {

@@ -10,7 +10,7 @@ pub fn table() -> Vec<u64> {
 }
 
 /// One of each kind that is accepted, outputs longer than needed.
-pub fn accepted_calls() -> [Call; 10] {
+pub fn accepted_calls() -> [Call; 11] {
     let image = image_of(3, &KEYS);
     [
         Call::SetUp { order: 9 },
@@ -36,6 +36,11 @@ pub fn accepted_calls() -> [Call; 10] {
         Call::List {
             image,
             room: listing_length(3, &KEYS) + 4,
+        },
+        Call::Load {
+            order: 5,
+            seed: 2,
+            count: 30,
         },
     ]
 }

@@ -2,7 +2,7 @@
 // changes none of the lent memory where it refuses.
 ghost use mathlib.Core.Path.{_≡_};
 ghost use Rattle.call_step.specs.Steps.{stepReply, stepPlace};
-ghost use Rattle.call_meaning.specs.Calls.{setUpReply, setUpAfter, buildReply, buildAfter, insertReply, insertAfter, deleteReply, deleteAfter, lookupReply, rangeReply, rangeOutput, writeReply, writeOutput, readReply, readAfter};
+ghost use Rattle.call_meaning.specs.Calls.{setUpReply, setUpAfter, loadReply, loadAfter, buildReply, buildAfter, insertReply, insertAfter, deleteReply, deleteAfter, lookupReply, rangeReply, rangeOutput, writeReply, writeOutput, readReply, readAfter};
 ghost use Rattle.call_list.specs.Listed.{listReply, listOutput};
 ghost use Rattle.btreap_structs.specs.Structs.{ranked, found, sized, stepped, placeGiven, markAfter};
 use btreap_structs::FoundReply;
@@ -28,6 +28,16 @@ pub extern "C" fn btreap_build(table: &mut [u64], order: u64, list: &[u64]) -> u
 {
     let answer = index::build(table, order, list);
     btreap_structs::built(answer)
+}
+
+// Make of any words of a right length the table of an order and of the keys that `count` operations after a seed leave. Refusals: 1, 2.
+#[no_mangle]
+pub extern "C" fn btreap_load(table: &mut [u64], order: u64, seed: u64, count: u16) -> u64
+    ensures { λ r. ⌜ r ≡ loadReply (now (table .entry)) order .refusal ⌝ }
+    ensures { λ _. ⌜ now (table .exit) ≡ loadAfter (now (table .entry)) order seed count ⌝ }
+{
+    let answer = index::load(table, order, seed, count);
+    btreap_structs::loaded(answer)
 }
 
 // Insert a key; the rank that it then has. Refusals: 1, 3, 7, 8, 10.

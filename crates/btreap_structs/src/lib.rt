@@ -1,12 +1,13 @@
 // The answers of the calls as the structs of `include/btreap.h`: the number of a refusal, zero where there is none, and the other
 // numbers, zero where there is one.
 ghost use mathlib.Core.Path.{_≡_};
-ghost use Rattle.call_replies.specs.Replies.{numberOf, setUpOf, builtOf, insertedOf, deletedOf, lookedUpOf, rangedOf, steppedOf, writtenOf, readBackOf, listedOf};
+ghost use Rattle.call_replies.specs.Replies.{numberOf, setUpOf, loadedOf, builtOf, insertedOf, deletedOf, lookedUpOf, rangedOf, steppedOf, writtenOf, readBackOf, listedOf};
 ghost use Rattle.btreap_structs.specs.Structs.{ranked, found, sized, stepped, markAfter};
 use call_replies::Built;
 use call_replies::Deleted;
 use call_replies::Inserted;
 use call_replies::Listed;
+use call_replies::Loaded;
 use call_replies::LookedUp;
 use call_replies::Ranged;
 use call_replies::ReadBack;
@@ -92,6 +93,15 @@ pub fn set_up(answer: SetUp) -> u64
     match answer {
         SetUp::Done => 0,
         SetUp::Refused(reason) => call_replies::number(reason),
+    }
+}
+
+pub fn loaded(answer: Loaded) -> u64
+    ensures { λ r. ⌜ r ≡ loadedOf answer .refusal ⌝ }
+{
+    match answer {
+        Loaded::Done => 0,
+        Loaded::Refused(reason) => call_replies::number(reason),
     }
 }
 

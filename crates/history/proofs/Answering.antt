@@ -8,15 +8,15 @@ use Rattle.lists.proofs.Tests.{by-test}
 use Rattle.table.specs.Contents.{Contents}
 use Rattle.table_least.specs.LeastKey.{leastWithin}
 use Rattle.call_replies.specs.Replies.{unlessRefused}
-use Rattle.call_meaning.specs.Calls.{grown, setUpReply, buildReply, insertReply, deleteReply, lookupReply, rangeReply, rangeOutput, writeReply, writeOutput, readReply}
+use Rattle.call_meaning.specs.Calls.{grown, setUpReply, loadReply, buildReply, insertReply, deleteReply, lookupReply, rangeReply, rangeOutput, writeReply, writeOutput, readReply}
 use Rattle.call_step.specs.Steps.{endReply, yielded, sought, stepReply, stepPlace}
 use Rattle.call_step.specs.declared.Place.{Place}
-use Rattle.history.specs.Call.{Call, setUp, build, reading, insert, delete, lookup, range, writing, step, reply, output}
+use Rattle.history.specs.Call.{Call, setUp, build, reading, insert, delete, lookup, range, writing, step, load, reply, output}
 use Rattle.history.specs.Book.{refusalBy, replyBy, outputBy, placeBy}
 use Rattle.history.specs.Theorems.{Answers}
 use Rattle.call_replies.proofs.Refusals.{both-same}
 use Rattle.call_meaning.proofs.Shows.{Shows}
-use Rattle.history.proofs.Refused.{set-up-refused, build-refused, reading-refused, insert-refused, delete-refused, lookup-refused, range-refused, writing-refused, step-accepted}
+use Rattle.history.proofs.Refused.{set-up-refused, load-refused, build-refused, reading-refused, insert-refused, delete-refused, lookup-refused, range-refused, writing-refused, step-accepted}
 
 -- a step that is not turned down gives no refusal's number
 step-said : (done : Bool) (key : ℕ) → cond done endReply (yielded key) ≡ record { refusal = 0; numbers = cond done endReply (yielded key) .numbers }
@@ -39,6 +39,10 @@ module _ (many : ℕ) (words : List ℕ) (book : Contents) (table : Shows many w
   set-up-replies : (order : ℕ) → setUpReply words order ≡ replyBy many (setUp order) book
   unfolding setUpReply replyBy
   set-up-replies order = rw (set-up-refused many words book table order, both-same)
+
+  load-replies : (order seed count : ℕ) → loadReply words order ≡ replyBy many (load order seed count) book
+  unfolding loadReply replyBy
+  load-replies order seed count = rw (load-refused many words book table order seed count, both-same)
 
   build-replies : (order : ℕ) (list : List ℕ) → buildReply words order list ≡ replyBy many (build order list) book
   unfolding buildReply replyBy
@@ -78,6 +82,7 @@ module _ (many : ℕ) (words : List ℕ) (book : Contents) (table : Shows many w
   replies-by-book (range low high lent) = range-replies low high lent
   replies-by-book (writing lent) = writing-replies lent
   replies-by-book (step place) = step-replies place
+  replies-by-book (load order seed count) = load-replies order seed count
 
   -- ---- outputs
   same-output : (call : Call) (lent : List ℕ) → lent ≡ unlessRefused (refusalBy many call book) lent lent
@@ -102,6 +107,7 @@ module _ (many : ℕ) (words : List ℕ) (book : Contents) (table : Shows many w
   outputs-by-book (range low high lent) = range-fills low high lent
   outputs-by-book (writing lent) = writing-fills lent
   outputs-by-book (step place) = same-output (step place) []
+  outputs-by-book (load order seed count) = same-output (load order seed count) []
 
   -- ---- places
   places-by-book : (place : Place) → stepPlace words place ≡ placeBy place book

@@ -14,17 +14,19 @@ use Rattle.table.specs.Contents.{Contents, Valid, newOrder, risingKeys}
 use Rattle.table.specs.Table.{fresh}
 use Rattle.image.specs.Image.{isImage, readImage}
 use Rattle.image.proofs.Judging.{is-image-valid}
+use Rattle.table_limits.specs.Lengths.{slotsFor}
 use Rattle.call_sets.specs.Sets.{joined}
 use Rattle.call_replies.specs.Replies.{unlessRefused}
 use Rattle.call_meaning.specs.Reasons.{wrongOrder, zeroKey, lowAboveHigh, notRising, notAnImage, outputTooShort}
-use Rattle.call_meaning.specs.Calls.{rewritten, grown, shrunk, setUpAfter, buildAfter, readAfter, insertAfter, deleteAfter}
+use Rattle.call_meaning.specs.Calls.{rewritten, grown, shrunk, setUpAfter, loadAfter, buildAfter, readAfter, insertAfter, deleteAfter}
 use Rattle.call_changes.proofs.Sets.{joined-length, joined-valid, without-valid}
+use Rattle.call_changes.proofs.Loading.{blank-valid, loaded-valid}
 use Rattle.table_decode.proofs.RisingKeys.{rising-says}
-use Rattle.history.specs.Call.{Call, setUp, build, reading, insert, delete, lookup, range, writing, step, Lent, run}
-use Rattle.history.specs.Book.{blank, listed, withKey, withoutKey, entered, reasons, refusalBy, note}
+use Rattle.history.specs.Call.{Call, setUp, build, reading, insert, delete, lookup, range, writing, step, load, Lent, run}
+use Rattle.history.specs.Book.{blank, listed, withKey, withoutKey, loadedBook, entered, reasons, refusalBy, note}
 use Rattle.call_replies.proofs.Refusals.{none-applies, refused-through, either-way, both-same}
 use Rattle.call_meaning.proofs.Shows.{Shows}
-use Rattle.history.proofs.Refused.{set-up-refused, build-refused, reading-refused, insert-refused, delete-refused}
+use Rattle.history.proofs.Refused.{set-up-refused, load-refused, build-refused, reading-refused, insert-refused, delete-refused}
 
 -- ---- the table
 module _ (many : ℕ) (words : List ℕ) (book : Contents) (table : Shows many words book) where
@@ -39,7 +41,7 @@ module _ (many : ℕ) (words : List ℕ) (book : Contents) (table : Shows many w
   unwritten call = table .exactly ∙ ap (fresh many) (sym (both-same (refusalBy many call book) book))
 
   pub run-notes : (call : Call) → run call words ≡ fresh many (note many call book)
-  unfolding note setUpAfter buildAfter readAfter insertAfter deleteAfter grown shrunk
+  unfolding note setUpAfter loadAfter buildAfter readAfter insertAfter deleteAfter grown shrunk
   run-notes (setUp order) = written _ _ (blank order) _ (set-up-refused many words book table order) refl
   run-notes (build order list) = written _ _ (listed order list) _ (build-refused many words book table order list) refl
   run-notes (reading bytes) = written _ _ (readImage bytes) _ (reading-refused many words book table bytes) refl
@@ -49,12 +51,11 @@ module _ (many : ℕ) (words : List ℕ) (book : Contents) (table : Shows many w
   run-notes (range low high lent) = unwritten (range low high lent)
   run-notes (writing lent) = unwritten (writing lent)
   run-notes (step place) = unwritten (step place)
+  run-notes (load order seed count) =
+      written _ _ (loadedBook (slotsFor (length words)) order seed count) _ (load-refused many words book table order seed count)
+      (ap (λ (m : ℕ). loadedBook m order seed count) (table .slots))
 
 -- ---- the book
-pub blank-valid : (many order : ℕ) → newOrder order ≡ true → Valid many (blank order)
-unfolding newOrder
-blank-valid many order right = record { order-right = right; keys-right = tt; keys-rise = tt; keys-fit = omega arith }
-
 module _ (many : ℕ) (book : Contents) (valid : Valid many book) where
   -- no reason that the book gives for refusing the call applies
   abbrev Spared : Call → Type 0
@@ -100,8 +101,9 @@ module _ (many : ℕ) (book : Contents) (valid : Valid many book) where
   numbered (range low high output) = omega arith
   numbered (writing output) = omega arith
   numbered (step place) = tt
+  numbered (load order seed count) = omega arith
 
-  entered-valid : (call : Call) → Lent call → Spared call → Valid many (entered call book)
+  entered-valid : (call : Call) → Lent call → Spared call → Valid many (entered many call book)
   unfolding wrongOrder
   entered-valid (setUp order) lent spared = blank-valid many order (not-false (newOrder order) (spared .0))
   entered-valid (build order list) lent spared = listed-valid order list lent spared
@@ -112,9 +114,10 @@ module _ (many : ℕ) (book : Contents) (valid : Valid many book) where
   entered-valid (range low high output) lent spared = valid
   entered-valid (writing output) lent spared = valid
   entered-valid (step place) lent spared = valid
+  entered-valid (load order seed count) lent spared = loaded-valid many order seed count (not-false (newOrder order) (spared .0))
 
   pub note-valid : (call : Call) → Lent call → Valid many (note many call book)
   unfolding note refusalBy
   note-valid call lent =
-      either-way (Valid many) (refusalBy many call book) (entered call book) book
+      either-way (Valid many) (refusalBy many call book) (entered many call book) book
       (λ e. entered-valid call lent (none-applies (reasons many call book) (numbered call) e)) valid

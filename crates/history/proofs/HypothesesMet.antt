@@ -1,7 +1,9 @@
 -- The hypotheses of the claims on histories are met. Assumes nothing.
 use mathlib.Core.Path.{refl}
+use native.Mathlib.Omega.{arith}
 use Rattle.lists.proofs.Tests.{lies-when}
 use Rattle.table.specs.Contents.{newOrder, tableOrder}
+use Rattle.history.specs.Call.{bySetUp, byLoad}
 use Rattle.history.specs.Hypotheses.{EveryTable, EveryCall, EveryHistory}
 
 pub every-table : EveryTable
@@ -21,9 +23,15 @@ every-call =
       ranges = λ low high output first second sized. (first, second, sized);
       writings = λ output small. small;
       steps = λ place first second. (first, second);
+      loads = λ order seed count word start few. (word, start, few);
     }
 
 pub every-history : EveryHistory
 unfolding newOrder tableOrder
-every-history order later least greatest lent =
-    (record { order = order; accepted = lies-when _ _ order least greatest; later = later; lent = lent }, refl)
+every-history =
+    record {
+      by-set-up = λ order later least greatest lent.
+          (record { first = bySetUp order; accepted = lies-when _ _ order least greatest; later = later; lent = (omega arith, lent) }, refl);
+      by-load = λ order seed count later least greatest start few lent.
+          (record { first = byLoad order seed count; accepted = lies-when _ _ order least greatest; later = later; lent = ((omega arith, start, few), lent) }, refl);
+    }

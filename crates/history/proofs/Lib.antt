@@ -4,6 +4,7 @@ pub mod Answering
 pub mod Entering
 pub mod Entries
 pub mod Running
+pub mod Loads
 pub mod Agreeing
 pub mod Claims
 pub mod Tested

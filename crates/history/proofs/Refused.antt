@@ -4,9 +4,9 @@ use mathlib.Core.Path.{_≡_}
 use Prim.Native.Nat.{ℕ}
 use Rattle.table.specs.Contents.{Contents}
 use Rattle.call_meaning.specs.Reasons.{wrongLength, notSound, keyHeld, keyAbsent, tooManyKeys}
-use Rattle.call_meaning.specs.Calls.{grown, setUpRefusal, buildRefusal, insertRefusal, deleteRefusal, lookupRefusal, rangeRefusal, writeRefusal, readRefusal}
+use Rattle.call_meaning.specs.Calls.{grown, setUpRefusal, loadRefusal, buildRefusal, insertRefusal, deleteRefusal, lookupRefusal, rangeRefusal, writeRefusal, readRefusal}
 use Rattle.call_step.specs.Steps.{stepRefusal}
-use Rattle.history.specs.Call.{setUp, build, reading, insert, delete, lookup, range, writing}
+use Rattle.history.specs.Call.{setUp, build, reading, insert, delete, lookup, range, writing, load}
 use Rattle.history.specs.Book.{refusalBy}
 use Rattle.call_meaning.proofs.Shows.{Shows}
 
@@ -14,6 +14,10 @@ module _ (many : ℕ) (words : List ℕ) (book : Contents) (table : Shows many w
   pub set-up-refused : (order : ℕ) → setUpRefusal words order ≡ refusalBy many (setUp order) book
   unfolding setUpRefusal refusalBy wrongLength
   set-up-refused order = rw (table .right)
+
+  pub load-refused : (order seed count : ℕ) → loadRefusal words order ≡ refusalBy many (load order seed count) book
+  unfolding loadRefusal refusalBy wrongLength
+  load-refused order seed count = rw (table .right)
 
   pub build-refused : (order : ℕ) (list : List ℕ) → buildRefusal words order list ≡ refusalBy many (build order list) book
   unfolding buildRefusal refusalBy wrongLength tooManyKeys

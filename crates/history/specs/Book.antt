@@ -11,6 +11,7 @@ use Rattle.treap.specs.Blocks.{blocksMet}
 use Rattle.table.specs.Contents.{Contents}
 use Rattle.image.specs.Image.{imageOf, readImage}
 use Rattle.call_sets.specs.Sets.{joined, without}
+use Rattle.call_sets.specs.Load.{loaded}
 use Rattle.intervals.specs.Intervals.{within}
 use Rattle.table_least.specs.LeastKey.{leastWithin}
 use Rattle.call_replies.specs.Replies.{Reply, Reason, lowest, unlessRefused}
@@ -18,7 +19,7 @@ use Rattle.call_meaning.specs.Reasons.{wrongOrder, zeroKey, lowAboveHigh, notRi
 use Rattle.call_meaning.specs.Calls.{rankIn, standingIn}
 use Rattle.call_step.specs.Steps.{endReply, yielded, moved}
 use Rattle.call_step.specs.declared.Place.{Place}
-use Rattle.history.specs.Call.{Call, setUp, build, reading, insert, delete, lookup, range, writing, step}
+use Rattle.history.specs.Call.{Call, setUp, build, reading, insert, delete, lookup, range, writing, step, load}
 
 -- ---- the entries
 -- "Set-up ..: the given order, no keys."
@@ -37,18 +38,24 @@ withKey key book = record { order = book .order; keys = joined key (book .keys) 
 abbrev pub withoutKey : ℕ → Contents → Contents
 withoutKey key book = record { order = book .order; keys = without key (book .keys) }
 
+-- "A load sets up the table with a given order, then does 0 to 65,535 operations .. The end set must equal what these rules give
+-- without the treap": the given order and the end set of its rules, over M slots.
+abbrev pub loadedBook : ℕ → ℕ → ℕ → ℕ → Contents
+loadedBook many order seed count = record { order = order; keys = loaded many seed count }
+
 -- The book after an accepted call: "Reading ..: the order and set whose image the bytes are"; "at a lookup, range or writing, the book
 -- stays as it was", and steps "change neither table nor book".
-abbrev pub entered : Call → Contents → Contents
-entered (setUp order) book = blank order
-entered (build order list) book = listed order list
-entered (reading bytes) book = readImage bytes
-entered (insert key) book = withKey key book
-entered (delete key) book = withoutKey key book
-entered (lookup key) book = book
-entered (range low high output) book = book
-entered (writing output) book = book
-entered (step place) book = book
+abbrev pub entered : ℕ → Call → Contents → Contents
+entered many (setUp order) book = blank order
+entered many (build order list) book = listed order list
+entered many (reading bytes) book = readImage bytes
+entered many (insert key) book = withKey key book
+entered many (delete key) book = withoutKey key book
+entered many (lookup key) book = book
+entered many (range low high output) book = book
+entered many (writing output) book = book
+entered many (step place) book = book
+entered many (load order seed count) book = loadedBook many order seed count
 
 -- ---- refusals
 -- "Refusals 2, 3, 5 and 6 are judged on the input, 8 to 10 on input, book and M."
@@ -73,21 +80,22 @@ reasons many (range low high output) book =
     lowAboveHigh low high ∷ outputTooShort (length output) (length (within low high (book .keys))) ∷ []
 reasons many (writing output) book = outputTooShort (length output) (length (imageOf book)) ∷ []
 reasons many (step place) book = []
+reasons many (load order seed count) book = wrongOrder order ∷ []
 
 unfoldable pub refusalBy : ℕ → Call → Contents → ℕ
 refusalBy many call book = lowest (reasons many call book)
 
 -- ---- the book of a list of calls
 -- "Set-up, unless 2 applies ..; build, unless 2, 5 or 10 ..; reading, unless 6 or 10 ..; insert, unless 3, 8 or 10 ..; delete, unless 3
--- or 9 .. Otherwise .. the book stays as it was."
+-- or 9 .. Otherwise .. the book stays as it was." A load's "checks are 1, 2".
 unfoldable pub note : ℕ → Call → Contents → Contents
-note many call book = unlessRefused (refusalBy many call book) (entered call book) book
+note many call book = unlessRefused (refusalBy many call book) (entered many call book) book
 
 abbrev pub notes : ℕ → List Call → Contents → Contents
 notes many [] book = book
 notes many (call ∷ calls) book = notes many calls (note many call book)
 
--- The book of a history; what stood in it before the first set-up does not matter.
+-- The book of a history; what stood in it before the first call does not matter.
 abbrev pub bookOf : ℕ → List Call → Contents
 bookOf many calls = notes many calls (blank 0)
 
@@ -103,6 +111,7 @@ numbersBy (lookup key) book = standingIn book key ++ (blocksMet (book .order) pr
 numbersBy (range low high output) book = length (within low high (book .keys)) ∷ []
 numbersBy (writing output) book = length (imageOf book) ∷ []
 numbersBy (step place) book = cond (place .done) endReply (yielded (leastWithin (place .next) (place .high) (book .keys))) .numbers
+numbersBy (load order seed count) book = []
 
 -- "A refusal returns its number, all other numbers zero".
 abbrev pub zeros : Call → List ℕ
@@ -115,6 +124,7 @@ zeros (lookup key) = 0 ∷ 0 ∷ 0 ∷ 0 ∷ 0 ∷ []
 zeros (range low high output) = 0 ∷ []
 zeros (writing output) = 0 ∷ []
 zeros (step place) = 0 ∷ 0 ∷ []
+zeros (load order seed count) = []
 
 unfoldable pub replyBy : ℕ → Call → Contents → Reply
 replyBy many call book =
@@ -131,6 +141,7 @@ filled (lookup key) book = []
 filled (range low high output) book = overwrite output 0 (within low high (book .keys))
 filled (writing output) book = overwrite output 0 (imageOf book)
 filled (step place) book = []
+filled (load order seed count) book = []
 
 abbrev pub lentOutput : Call → List ℕ
 lentOutput (setUp order) = []
@@ -142,6 +153,7 @@ lentOutput (lookup key) = []
 lentOutput (range low high output) = output
 lentOutput (writing output) = output
 lentOutput (step place) = []
+lentOutput (load order seed count) = []
 
 unfoldable pub outputBy : ℕ → Call → Contents → List ℕ
 outputBy many call book = unlessRefused (refusalBy many call book) (filled call book) (lentOutput call)

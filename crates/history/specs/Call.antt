@@ -1,18 +1,21 @@
--- The calls of a history, what each leaves of the table and answers, and whole histories. Assumes nothing.
-use mathlib.Core.Bool.{true}
-use mathlib.Core.List.{List, [], _∷_}
+-- The calls of a history, what each leaves of the table and answers, the calls that a load stands for, and whole histories. Assumes
+-- nothing.
+use mathlib.Core.Bool.{true, cond}
+use mathlib.Core.List.{List, [], _∷_, _++_, map}
 use mathlib.Core.Path.{_≡_}
 use Prim.Native.Nat.{ℕ, _^_, _<_}
 use Rattle.lists.specs.Lists.{All}
 use Rattle.table.specs.Contents.{newOrder}
 use Rattle.image.specs.Layout.{IsByte}
+use Rattle.call_sets.specs.Load.{Operation, inserting, deleting, lookingUp, operations}
 use Rattle.call_replies.specs.Replies.{Reply}
-use Rattle.call_meaning.specs.Calls.{setUpAfter, setUpReply, buildAfter, buildReply, readAfter, readReply, insertAfter, insertReply, deleteAfter, deleteReply, lookupReply, rangeReply, rangeOutput, writeReply, writeOutput}
+use Rattle.call_meaning.specs.Calls.{setUpAfter, setUpReply, loadAfter, loadReply, buildAfter, buildReply, readAfter, readReply, insertAfter, insertReply, deleteAfter, deleteReply, lookupReply, rangeReply, rangeOutput, writeReply, writeOutput}
 use Rattle.call_step.specs.Steps.{stepReply}
 use Rattle.call_step.specs.declared.Place.{Place}
 
 -- "A history is a list of set-up, build, reading (of an image), insert, delete, lookup, range and writing (of one), refused calls
--- included .. Each call brings its own inputs, whatever they hold, and its own output .. steps .. may come anywhere between".
+-- included .. Each call brings its own inputs, whatever they hold, and its own output .. steps .. may come anywhere between" (01);
+-- and a load (02, N1).
 pub data Call : Type 0 where
   setUp : (order : ℕ) → Call
   build : (order : ℕ) → (list : List ℕ) → Call
@@ -23,11 +26,13 @@ pub data Call : Type 0 where
   range : (low : ℕ) → (high : ℕ) → (output : List ℕ) → Call
   writing : (output : List ℕ) → Call
   step : (place : Place) → Call
+  load : (order : ℕ) → (seed : ℕ) → (count : ℕ) → Call
 
 -- What can be lent as a word; what can be lent as a byte is `IsByte`. Nothing more is asked of inputs.
 abbrev pub IsWord : ℕ → Type 0
 IsWord n = n < 2 ^ 64
 
+-- What each call can be lent; a load "a 64-bit seed" and "a 16-bit count".
 abbrev pub Lent : Call → Type 0
 Lent (setUp order) = IsWord order
 Lent (build order list) = IsWord order × All IsWord list
@@ -38,6 +43,7 @@ Lent (lookup key) = IsWord key
 Lent (range low high output) = IsWord low × IsWord high × All IsWord output
 Lent (writing output) = All IsByte output
 Lent (step place) = IsWord (place .next) × IsWord (place .high)
+Lent (load order seed count) = IsWord order × IsWord seed × (count < 2 ^ 16)
 
 -- The table's words after a call: those that the call's contract names, and the same words where it writes none.
 abbrev pub run : Call → List ℕ → List ℕ
@@ -50,6 +56,7 @@ run (lookup key) words = words
 run (range low high output) words = words
 run (writing output) words = words
 run (step place) words = words
+run (load order seed count) words = loadAfter words order seed count
 
 -- What a call over these words replies, as its contract says.
 abbrev pub reply : Call → List ℕ → Reply
@@ -62,6 +69,7 @@ reply (lookup key) words = lookupReply words key
 reply (range low high output) words = rangeReply words low high output
 reply (writing output) words = writeReply words output
 reply (step place) words = stepReply words place
+reply (load order seed count) words = loadReply words order
 
 -- The output that a call over these words was lent, after it, as its contract says; none where it is lent none.
 abbrev pub output : Call → List ℕ → List ℕ
@@ -74,18 +82,64 @@ output (lookup key) words = []
 output (range low high lent) words = rangeOutput words low high lent
 output (writing lent) words = writeOutput words lent
 output (step place) words = []
+output (load order seed count) words = []
 
 -- "All its calls are lent one table, .. each as the call before left it".
 abbrev pub runs : List Call → List ℕ → List ℕ
 runs [] words = words
 runs (call ∷ calls) words = runs calls (run call words)
 
--- "Its first call is an accepted set-up, over any words."
+-- ---- loads
+-- "insert", "delete", "lookup": the call that an operation of a load is.
+abbrev pub callFor : Operation → Call
+callFor (inserting key) = insert key
+callFor (deleting key) = delete key
+callFor (lookingUp key) = lookup key
+
+-- "In a history a load counts as its set-up and operations."
+abbrev pub callsOfLoad : ℕ → ℕ → ℕ → List Call
+callsOfLoad order seed count = setUp order ∷ map callFor (operations seed count)
+
+-- The calls that a call stands for: an accepted load for its set-up and operations, a refused one, which changes nothing, for none,
+-- and any other for itself.
+abbrev pub standsFor : Call → List Call
+standsFor (setUp order) = setUp order ∷ []
+standsFor (build order list) = build order list ∷ []
+standsFor (reading bytes) = reading bytes ∷ []
+standsFor (insert key) = insert key ∷ []
+standsFor (delete key) = delete key ∷ []
+standsFor (lookup key) = lookup key ∷ []
+standsFor (range low high output) = range low high output ∷ []
+standsFor (writing output) = writing output ∷ []
+standsFor (step place) = step place ∷ []
+standsFor (load order seed count) = cond (newOrder order) (callsOfLoad order seed count) []
+
+-- The calls that a list of calls stands for: none of them is a load.
+abbrev pub spelledOut : List Call → List Call
+spelledOut [] = []
+spelledOut (call ∷ calls) = standsFor call ++ spelledOut calls
+
+-- ---- histories
+-- How a history begins: with a set-up, or with a load, which "counts as its set-up and operations".
+pub data Opening : Type 0 where
+  bySetUp : (order : ℕ) → Opening
+  byLoad : (order : ℕ) → (seed : ℕ) → (count : ℕ) → Opening
+
+abbrev pub opened : Opening → Call
+opened (bySetUp order) = setUp order
+opened (byLoad order seed count) = load order seed count
+
+-- It is accepted, over any words of a table: 2 does not apply.
+abbrev pub Accepted : Opening → Type 0
+Accepted (bySetUp order) = newOrder order ≡ true
+Accepted (byLoad order seed count) = newOrder order ≡ true
+
+-- "Its first call is an accepted set-up, over any words", or an accepted load.
 pub record History : Type 0 where
-  pub order : ℕ
-  pub accepted : newOrder order ≡ true
+  pub first : Opening
+  pub accepted : Accepted first
   pub later : List Call
-  pub lent : All Lent later
+  pub lent : All Lent (opened first ∷ later)
 
 abbrev pub callsOf : History → List Call
-callsOf history = setUp (history .order) ∷ history .later
+callsOf history = opened (history .first) ∷ history .later

@@ -1,5 +1,5 @@
--- What is claimed of the hypotheses of the claims on histories: every table, every call and every history that document 01 speaks of
--- meets them, so that no claim is empty. `proofs/HypothesesMet` proves it. Assumes nothing.
+-- What is claimed of the hypotheses of the claims on histories: every table, every call and every history that documents 01 and
+-- 02 speak of meets them, so that no claim is empty. `proofs/HypothesesMet` proves it. Assumes nothing.
 use mathlib.Core.List.{List, _∷_}
 use mathlib.Core.Path.{_≡_}
 use Prim.Native.Nat.{ℕ, _^_, _<_, _≤_}
@@ -8,7 +8,7 @@ use Rattle.lists.specs.Lists.{All}
 use Rattle.table.specs.Layout.{mostSlots, leastOrder, greatestOrder, tableWords}
 use Rattle.image.specs.Layout.{IsByte}
 use Rattle.call_step.specs.declared.Place.{Place}
-use Rattle.history.specs.Call.{Call, setUp, build, reading, insert, delete, lookup, range, writing, step, IsWord, Lent, History, callsOf}
+use Rattle.history.specs.Call.{Call, setUp, build, reading, insert, delete, lookup, range, writing, step, load, IsWord, Lent, History, callsOf}
 use Rattle.history.specs.Theorems.{Table}
 
 -- "A table has M slots, M from 1 to 4,096, and lives in lent 64-bit words, 3 + 6·M of them": any words of that number are a table.
@@ -28,9 +28,11 @@ pub record EveryCall : Type 0 where
   pub ranges : (low high : ℕ) (output : List ℕ) → IsWord low → IsWord high → All IsWord output → Lent (range low high output)
   pub writings : (output : List ℕ) → All IsByte output → Lent (writing output)
   pub steps : (place : Place) → IsWord (place .next) → IsWord (place .high) → Lent (step place)
+  pub loads : (order seed count : ℕ) → IsWord order → IsWord seed → count < 2 ^ 16 → Lent (load order seed count)
 
--- "Its first call is an accepted set-up": every such list of calls is a history.
-abbrev pub EveryHistory : Type 0
-EveryHistory =
-    (order : ℕ) (later : List Call) → leastOrder ≤ order → order ≤ greatestOrder → All Lent later
-    → (history : History) × (callsOf history ≡ setUp order ∷ later)
+-- "Its first call is an accepted set-up", or an accepted load: every such list of calls is a history.
+pub record EveryHistory : Type 0 where
+  pub by-set-up : (order : ℕ) (later : List Call) → leastOrder ≤ order → order ≤ greatestOrder → All Lent later
+      → (history : History) × (callsOf history ≡ setUp order ∷ later)
+  pub by-load : (order seed count : ℕ) (later : List Call) → leastOrder ≤ order → order ≤ greatestOrder → IsWord seed → count < 2 ^ 16 → All Lent later
+      → (history : History) × (callsOf history ≡ load order seed count ∷ later)

@@ -8,15 +8,15 @@ use lib.Dec.{eqb}
 use lib.ListN.{length, take, getD}
 use Rattle.lists.specs.Lists.{All, member}
 use Rattle.table.specs.Layout.{mostSlots, tableWords}
-use Rattle.table.specs.Contents.{Contents, Valid, newOrder}
+use Rattle.table.specs.Contents.{Contents, Valid}
 use Rattle.table.specs.Table.{fresh, Sound}
 use Rattle.image.specs.Image.{imageOf, readImage, isImage}
-use Rattle.call_meaning.specs.Calls.{setUpRefusal, writeRefusal, writeReply, writeOutput}
+use Rattle.call_meaning.specs.Calls.{loadRefusal, writeRefusal, writeReply, writeOutput}
 use Rattle.call_step.specs.Steps.{stepPlace}
 use Rattle.call_step.specs.declared.Place.{Place}
-use Rattle.history.specs.Call.{Call, History, callsOf, runs, reply, output}
+use Rattle.history.specs.Call.{Call, load, Opening, opened, Accepted, History, callsOf, callsOfLoad, spelledOut, run, runs, reply, output}
 use Rattle.image.specs.Layout.{IsByte}
-use Rattle.history.specs.Book.{withKey, withoutKey, notes, bookOf, replyBy, outputBy, placeBy}
+use Rattle.history.specs.Book.{withKey, withoutKey, refusalBy, note, notes, bookOf, replyBy, outputBy, placeBy}
 
 -- "A table has M slots, M from 1 to 4,096, and lives in lent 64-bit words, 3 + 6·M of them": any words of that number.
 pub record Table (many : ℕ) (words : List ℕ) : Type 0 where
@@ -93,13 +93,31 @@ abbrev pub AnswersFromBook : Type 0
 AnswersFromBook = (many : ℕ) (words : List ℕ) (history : History) → Table many words → Answers many (tableAfter history words) (bookAfter many history)
 
 -- ---- the beginning of a history
--- A first set-up is accepted, over any words, exactly when its order may be set up, as `History` asks.
+-- A first call, a set-up or a load, is accepted over any words exactly when its order may be set up, as `History` asks.
 abbrev pub FirstAccepted : Type 0
-FirstAccepted = (many : ℕ) (words : List ℕ) (order : ℕ) → Table many words → ((setUpRefusal words order ≡ 0) ↔ (newOrder order ≡ true))
+FirstAccepted =
+    (many : ℕ) (words : List ℕ) (first : Opening) → Table many words → ((reply (opened first) words .refusal ≡ 0) ↔ Accepted first)
 
 -- What the book held before it does not matter.
 abbrev pub AnyStart : Type 0
 AnyStart = (many : ℕ) (history : History) (before : Contents) → notes many (callsOf history) before ≡ bookAfter many history
+
+-- ---- loads
+-- "In a history a load counts as its set-up and operations": an accepted load leaves the words, and the book, that these calls leave.
+pub record LoadCounts : Type 0 where
+  -- over any words, and from any seed
+  pub table : (words : List ℕ) (order seed count : ℕ) → loadRefusal words order ≡ 0
+      → run (load order seed count) words ≡ runs (callsOfLoad order seed count) words
+  -- in any book, for any M
+  pub book : (many : ℕ) (book : Contents) (order seed count : ℕ) → refusalBy many (load order seed count) book ≡ 0
+      → note many (load order seed count) book ≡ notes many (callsOfLoad order seed count) book
+
+-- The same of whole histories: with the calls that it stands for in the place of each load, they are histories again, and leave the
+-- same words and the same book.
+pub record LoadsSpelledOut : Type 0 where
+  pub plain : (history : History) → (other : History) × (callsOf other ≡ spelledOut (callsOf history))
+  pub table : (many : ℕ) (words : List ℕ) (history : History) → Table many words → runs (spelledOut (callsOf history)) words ≡ tableAfter history words
+  pub book : (many : ℕ) (history : History) → bookOf many (spelledOut (callsOf history)) ≡ bookAfter many history
 
 -- ---- what the claims stand on
 -- Order and set agree exactly when order and rising list do.

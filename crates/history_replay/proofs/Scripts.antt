@@ -5,7 +5,9 @@ use Prim.Native.Nat.{ℕ}
 use lib.Dec.{eqb}
 use Rattle.lists.specs.Lists.{All}
 use Rattle.lists.proofs.Tests.{by-test}
+use Rattle.call_meaning.specs.Calls.{setUpReply}
 use Rattle.history.specs.Call.{Call, IsWord, Lent, History, runs}
+use Rattle.history.specs.Call.Opening.{bySetUp}
 use Rattle.history.proofs.Running.{first-accepted, table-from-book}
 use Rattle.history_replay.specs.Script.{callOf, callsIn, BuiltFromBook}
 
@@ -23,8 +25,9 @@ calls-lent (kind ∷ []) words = tt
 calls-lent (kind ∷ value ∷ rest) words = (call-lent kind value (words .1 .0), calls-lent rest (words .1 .1))
 
 pub built-from-book : (script before after : List ℕ) → All IsWord script → after ≡ runs (callsIn script) before → BuiltFromBook script before after
+unfolding setUpReply
 built-from-book script before after words ran many order later table begins accepted =
     let lent = subst (All Lent) begins (calls-lent script words) in
-    let right = first-accepted many before order table .0 accepted in
-    let history : History = record { order = order; accepted = right; later = later; lent = lent .1 } in
+    let right = first-accepted many before (bySetUp order) table .0 accepted in
+    let history : History = record { first = bySetUp order; accepted = right; later = later; lent = lent } in
     (history, sym begins, ran ∙ ap (λ (calls : List Call). runs calls before) begins ∙ table-from-book many before history table .0)

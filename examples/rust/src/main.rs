@@ -46,6 +46,19 @@ fn yes_or_no(answer: bool) -> &'static str {
     }
 }
 
+/// Both run one load, in tables of different sizes, and compare images.
+fn compare_loads() -> Result<(), Refusal> {
+    let run = |slots| {
+        let mut table = vec![0; btreap::table_words(slots)];
+        btreap::load(&mut table, 16, 2026, 1000)?;
+        image_of(&table)
+    };
+    let (sent, kept) = (run(600)?, run(4096)?);
+    println!("image of the load: {} bytes", sent.len());
+    println!("images agree: {}", yes_or_no(sent == kept));
+    Ok(())
+}
+
 fn main() -> Result<(), Refusal> {
     let mut first = vec![0; btreap::table_words(SLOTS)];
     let mut second = first.clone();
@@ -74,5 +87,6 @@ fn main() -> Result<(), Refusal> {
     let mut text = vec![0; 10 * kept.len()];
     let size = btreap::list(&kept, &mut text)?;
     print!("{}", String::from_utf8_lossy(&text[..size]));
-    Ok(())
+
+    compare_loads()
 }

@@ -10,14 +10,20 @@ use crate::priority::{priority, Entry};
 
 /// Inserts a key that is absent, with room for it. Gives its rank.
 pub fn insert(table: &mut [u64], judged: &mut Judged, key: u64) -> u64 {
+    let new = judged.add(key);
+    insert_node(table, judged, new)
+}
+
+/// Inserts the key of that number, which is in no slot, with room for it. Gives
+/// its rank.
+pub fn insert_node(table: &mut [u64], judged: &mut Judged, new: u16) -> u64 {
     let mut edit = Edit::of(table, judged);
-    let new = edit.add(key);
+    edit.place(new);
     let touched = edit.link(new);
     edit.mend(&touched);
     let rank = edit.record(new)[RANK];
-    let root = edit.node(edit.root).key;
     table[NUMBER] += 1;
-    table[ROOT] = root;
+    table[ROOT] = judged.root_key();
     rank
 }
 
@@ -28,15 +34,13 @@ pub fn delete(table: &mut [u64], judged: &mut Judged, number: u16) -> u64 {
     let touched = edit.unlink(number);
     edit.mend(&touched);
     edit.close(edit.node(number).slot as usize);
-    let root = edit.node(edit.root).key;
     table[NUMBER] -= 1;
-    table[ROOT] = root;
+    table[ROOT] = judged.root_key();
     rank
 }
 
 struct Edit<'a> {
     order: u64,
-    root: u16,
     homes: Homes,
     slots: &'a mut [Record],
     judged: &'a mut Judged,
@@ -57,7 +61,6 @@ impl<'a> Edit<'a> {
     fn of(table: &'a mut [u64], judged: &'a mut Judged) -> Edit<'a> {
         Edit {
             order: table[ORDER],
-            root: judged.root(),
             homes: Homes::new(slots(table).len()),
             slots: slots_mut(table),
             judged,
@@ -82,7 +85,7 @@ impl<'a> Edit<'a> {
 
     fn hang(&mut self, hook: Hook, number: u16) {
         match hook {
-            Hook::Root => self.root = number,
+            Hook::Root => self.judged.root = number,
             Hook::Left(above) => self.judged.children[above as usize][LEFT_CHILD] = number,
             Hook::Right(above) => self.judged.children[above as usize][RIGHT_CHILD] = number,
         }
@@ -94,7 +97,7 @@ impl<'a> Edit<'a> {
     /// The nodes on the way down to the key while `go_on` says so, and the
     /// subtree that it stopped at, with where that hangs.
     fn way_down(&self, key: u64, go_on: impl Fn(Entry) -> bool) -> (Vec<u16>, Hook, u16) {
-        let (mut way, mut hook, mut at) = (vec![], Hook::Root, self.root);
+        let (mut way, mut hook, mut at) = (vec![], Hook::Root, self.judged.root);
         while at != NONE && go_on(self.node(at).entry()) {
             way.push(at);
             let [left, right] = self.children(at);
@@ -165,8 +168,8 @@ impl<'a> Edit<'a> {
         for &number in touched.iter().rev() {
             self.mend_rank(number);
         }
-        if self.root != NONE {
-            let root = self.root;
+        let root = self.judged.root;
+        if root != NONE {
             self.lead(root, 0);
         }
         for &number in touched {
@@ -195,7 +198,8 @@ impl<'a> Edit<'a> {
             }
         };
         let [left, right] = self.children(number).map(read);
-        let (rank, count) = rank_and_count(self.order, number == self.root, left.1, right.1);
+        let is_root = number == self.judged.root;
+        let (rank, count) = rank_and_count(self.order, is_root, left.1, right.1);
         let record = self.record_mut(number);
         record[LEFT] = left.0;
         record[RIGHT] = right.0;
@@ -220,15 +224,11 @@ impl<'a> Edit<'a> {
     // -----------------------------------------------------------------------
     // Slots
 
-    /// Numbers a new key and places it: from its home on, what it outranks gives
+    /// Places a key that is in no slot: from its home on, what it outranks gives
     /// way and goes on in its stead.
-    fn add(&mut self, key: u64) -> u16 {
-        let new = self.judged.nodes.len() as u16;
-        let mut record = [key, 0, 0, 0, 0, 0];
-        let mut node = Node::new(&record, 0, self.homes);
-        self.judged.nodes.push(node);
-        self.judged.children.push([NONE; 2]);
-        let mut number = new;
+    fn place(&mut self, new: u16) {
+        let (mut number, mut node) = (new, *self.node(new));
+        let mut record = [node.key, 0, 0, 0, 0, 0];
         let mut slot = self.homes.home(node.priority);
         while self.slots[slot][KEY] != 0 {
             let other = self.judged.find(self.slots[slot][KEY]).expect("was judged");
@@ -241,7 +241,6 @@ impl<'a> Edit<'a> {
         }
         self.slots[slot] = record;
         self.judged.nodes[number as usize].slot = slot as u32;
-        new
     }
 
     fn next(&self, slot: usize) -> usize {

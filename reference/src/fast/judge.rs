@@ -47,6 +47,7 @@ fn collect(slots: &[Record], number: u64) -> Option<Judged> {
         nodes,
         finder,
         children,
+        root: NONE,
         visits: vec![],
     })
 }
@@ -74,6 +75,7 @@ impl Judged {
             Some(root) => root,
             None => return false,
         };
+        self.root = root;
         let top = root as usize;
         self.nodes[top].leader == 0
             && self.find_children()

@@ -4,6 +4,7 @@ use super::finder::Finder;
 use super::image::Records;
 use super::node::Node;
 use super::record::*;
+use crate::calls::LookUpReply;
 
 /// A node to be looked at: its number, and the interval that its key must be
 /// in, above `low` and up to `high`.
@@ -21,6 +22,8 @@ pub struct Judged {
     pub finder: Finder,
     /// Numbers of the left and the right child.
     pub children: Vec<[u16; 2]>,
+    /// The root's number; `NONE` when there are no keys.
+    pub root: u16,
     /// All nodes, each parent before its children.
     pub visits: Vec<Visit>,
 }
@@ -40,19 +43,55 @@ impl Judged {
             .find(key, |number| self.nodes[number as usize].key)
     }
 
+    /// The root's key; zero when there are no keys.
+    pub fn root_key(&self) -> u64 {
+        self.nodes[self.root as usize].key
+    }
+
+    /// Numbers a new key, which is in no slot.
+    pub fn add(&mut self, key: u64) -> u16 {
+        let number = self.nodes.len() as u16;
+        self.nodes.push(Node::unplaced(key));
+        self.children.push([NONE; 2]);
+        number
+    }
+
     /// How many keys.
     pub fn number(&self) -> usize {
         self.nodes.len() - 1
     }
 
-    /// The root's number; `NONE` when there are no keys.
-    pub fn root(&self) -> u16 {
-        self.visits.first().map_or(NONE, |visit| visit.number)
+    /// What a lookup says, with the nodes' words from `records`.
+    #[inline(always)]
+    pub fn look_up(&self, records: &impl Records, key: u64) -> LookUpReply {
+        let k = records.record(self.root)[RANK];
+        let (mut at, mut last_level) = (self.root, None);
+        let mut reply = LookUpReply::default();
+        while at != NONE {
+            // Levels fall on the way down, so that no block is met twice.
+            let here = records.record(at);
+            let this_level = Some(level(here[RANK], k));
+            reply.blocks += (this_level != last_level) as u64;
+            last_level = this_level;
+            if key == here[KEY] {
+                let [_, _, _, leader, rank, count] = here;
+                return LookUpReply {
+                    held: true,
+                    rank,
+                    count,
+                    leader,
+                    ..reply
+                };
+            }
+            let [left, right] = self.children[at as usize];
+            at = if key < here[KEY] { left } else { right };
+        }
+        reply
     }
 
     /// The least key that is not below the number; none if there is none.
     pub fn least_from(&self, low: u64) -> Option<u64> {
-        let (mut least, mut at) = (None, self.root() as usize);
+        let (mut least, mut at) = (None, self.root as usize);
         while at != NONE as usize {
             let key = self.nodes[at].key;
             let [left, right] = self.children[at];
@@ -82,7 +121,7 @@ impl Judged {
 
     fn write_few(&self, low: u64, output: &mut [u64]) {
         let mut above = vec![];
-        let mut at = self.root() as usize;
+        let mut at = self.root as usize;
         for word in output {
             while at != NONE as usize {
                 let [left, right] = self.children[at];

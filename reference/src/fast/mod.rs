@@ -1,6 +1,7 @@
-//! The calls of document 01 once more, as fast as plain Rust does them: the same
-//! words, replies and refusals as [`crate::calls`], to measure speed by. Nothing
-//! is kept between calls: each judges the whole table that it is lent.
+//! The calls of documents 01 and 02 once more, as fast as plain Rust does them:
+//! the same words, replies and refusals as [`crate::calls`], to measure speed by.
+//! Nothing is kept between calls: each judges the whole table that it is lent,
+//! but for those that make it anew.
 //!
 //! Only the real priority is served. No recursion; room to work in is taken from
 //! the heap.
@@ -13,17 +14,19 @@ mod image;
 mod judge;
 mod judged;
 mod listing;
+mod load;
 mod node;
 mod placed;
 mod record;
 
 use crate::calls::*;
 use crate::is_order;
+use crate::load::operations;
 use fresh::Nodes;
-use image::{candidate, rises, Layout, Records};
+use image::{candidate, rises, Layout};
 use judge::judge;
 use judged::Judged;
-use record::{level, slots_of_length, KEY, NONE, RANK};
+use record::slots_of_length;
 
 /// M, or refusal 1.
 fn length_of(table: &[u64]) -> Outcome<usize> {
@@ -59,6 +62,17 @@ fn try_build(table: &mut [u64], order: u64, list: &[u64]) -> Outcome<()> {
     refuse_if(!rises(list) || list.first() == Some(&0), NOT_RISING)?;
     refuse_if(list.len() > slots, TOO_MANY)?;
     Nodes::new(order, [&[0], list].concat()).write_table(table, order);
+    Ok(())
+}
+
+/// "the checks are 1, 2"
+pub fn load(table: &mut [u64], order: u64, seed: u64, count: u16) -> PlainReply {
+    plain(try_load(table, order, seed, count))
+}
+
+fn try_load(table: &mut [u64], order: u64, seed: u64, count: u16) -> Outcome<()> {
+    try_set_up(table, order)?;
+    load::run(table, operations(seed, count));
     Ok(())
 }
 
@@ -101,29 +115,7 @@ fn try_look_up(table: &[u64], key: u64) -> Outcome<LookUpReply> {
     length_of(table)?;
     refuse_if(key == 0, KEY_ZERO)?;
     let judged = sound(table)?;
-    let k = judged.record(judged.root())[RANK];
-    let (mut at, mut last_level) = (judged.root(), None);
-    let mut reply = LookUpReply::default();
-    while at != NONE {
-        // Levels fall on the way down, so that no block is met twice.
-        let here = judged.record(at);
-        let this_level = Some(level(here[RANK], k));
-        reply.blocks += (this_level != last_level) as u64;
-        last_level = this_level;
-        if key == here[KEY] {
-            let [_, _, _, leader, rank, count] = here;
-            return Ok(LookUpReply {
-                held: true,
-                rank,
-                count,
-                leader,
-                ..reply
-            });
-        }
-        let [left, right] = judged.children[at as usize];
-        at = if key < here[KEY] { left } else { right };
-    }
-    Ok(reply)
+    Ok(judged.look_up(&judged, key))
 }
 
 /// "range 1, 4, 7, 11"
@@ -193,7 +185,7 @@ fn try_write_image(table: &[u64], output: &mut [u8]) -> Outcome<usize> {
     let layout = Layout::new(
         table[record::ORDER],
         &judged,
-        judged.root(),
+        judged.root,
         judged.rising().into_iter(),
     );
     let length = layout.length();

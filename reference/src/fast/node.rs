@@ -21,6 +21,16 @@ pub struct Node {
 }
 
 impl Node {
+    /// A key that is in no slot yet.
+    #[inline(always)]
+    pub fn unplaced(key: u64) -> Node {
+        Node {
+            key,
+            priority: priority(key),
+            ..Node::default()
+        }
+    }
+
     #[inline(always)]
     pub fn new(record: &Record, slot: usize, homes: Homes) -> Node {
         let [key, left, right, leader, rank, count] = *record;
