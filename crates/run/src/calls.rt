@@ -7,6 +7,7 @@ use call_replies::Built;
 use call_replies::Deleted;
 use call_replies::Inserted;
 use call_replies::Listed;
+use call_replies::Loaded;
 use call_replies::LookedUp;
 use call_replies::Ranged;
 use call_replies::ReadBack;
@@ -46,6 +47,22 @@ pub fn set_up(table: &mut [u64], order: u64) {
     match answer {
         SetUp::Done => tell(0),
         SetUp::Refused(reason) => refused(reason),
+    }
+    say(b"\n");
+}
+
+pub fn load(table: &mut [u64], order: u64, seed: u64, count: u16) {
+    say(b"load of order");
+    tell(order);
+    say(b" seed");
+    tell(seed);
+    say(b" count");
+    tell(count as u64);
+    say(b":");
+    let answer = index::load(table, order, seed, count);
+    match answer {
+        Loaded::Done => tell(0),
+        Loaded::Refused(reason) => refused(reason),
     }
     say(b"\n");
 }

@@ -1,6 +1,6 @@
-// Runs the calls: first on document 01's figures, then through a session on three slots in which a range is read at once and key by key and
-// an image is written, read and listed, and last over words that are no table and a table that is not sound. Every refusal of every call is
-// met.
+// Runs the calls: first on document 01's figures, then loads, then a session on three slots in which a range is read at once and key by key
+// and an image is written, read and listed, and last over words that are no table and a table that is not sound. Every refusal of every call
+// is met.
 use index::Place;
 
 mod calls;
@@ -50,6 +50,18 @@ fn orders(table: &mut [u64]) {
     calls::set_up(table, 255);
     calls::set_up(table, 2);
     calls::set_up(table, 256);
+}
+
+// Loads of no operation, of a few and of as many as there can be, and the keys that they leave; and loads of orders that no table has.
+fn loads(table: &mut [u64]) {
+    calls::load(table, 3, 0, 0);
+    walk(table, Place::ALL);
+    calls::load(table, 3, 0, 3);
+    walk(table, Place::ALL);
+    calls::load(table, 3, 0, 65535);
+    walk(table, Place::ALL);
+    calls::load(table, 2, 0, 3);
+    calls::load(table, 256, 0, 3);
 }
 
 // Keys that come, into three slots.
@@ -142,6 +154,7 @@ fn use_table(table: &mut [u64]) {
 fn make_table(table: &mut [u64]) {
     let image = [0u8; TWO_KEYS];
     calls::set_up(table, 3);
+    calls::load(table, 2, 0, 3);
     calls::build(table, 3, 5, 9);
     calls::read(table, &image);
 }
@@ -172,6 +185,7 @@ fn main() {
     try_lengths();
     let mut table = [0u64; THREE_SLOTS];
     orders(&mut table);
+    loads(&mut table);
     calls::set_up(&mut table, 3);
     fill(&mut table);
     ask(&table);
