@@ -15,7 +15,7 @@ const SLOTS: [usize; 5] = [1, 3, 100, 512, 4096];
 const ORDERS: [u64; 3] = [3, 16, 255];
 const MOST: u16 = u16::MAX;
 
-/// Slots, order and seed of the longest loads. Each takes seconds, so they are
+/// Slots, order and seed of the longest loads. Each takes up to a second, so they are
 /// few; from no seed in particular unless it is an end.
 const LONGEST: [(usize, u64, u64); 7] = [
     (1, 3, 0),

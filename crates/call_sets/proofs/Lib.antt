@@ -1,3 +1,4 @@
 -- Laws of changing a list in place, one subject a file.
 pub mod Shifting
 pub mod Members
+mod WorkedLoads
