@@ -1,2 +1,3 @@
--- What the contracts of insert and delete on a table that is known to be sound cite.
+-- What the contracts of insert, delete and a load on a table that is known to be sound cite.
 pub mod Known
+pub mod Done

@@ -20,7 +20,7 @@ use Rattle.call_meaning.specs.Calls.{rankIn, insertAfter, deleteAfter}
 use Rattle.call_changes.specs.Known.{Known}
 use Rattle.call_changes.proofs.Sets.{joined-length, joined-all, joined-rising, joined-valid, without-valid}
 use Rattle.call_changes.proofs.Knowing.{known-valid, known-most}
-use Rattle.call_changes.proofs.Loading.{withDone}
+use Rattle.call_changes.specs.Done.{withDone}
 use Rattle.call_insert.proofs.Inserting as inserts
 use Rattle.call_delete.proofs.Deleting as deletes
 

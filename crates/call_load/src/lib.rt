@@ -8,10 +8,11 @@ ghost use Rattle.lists.specs.Lists.{All};
 ghost use Rattle.table.specs.Layout.{mostSlots, tableWords};
 ghost use Rattle.table.specs.Table.{contentsOf, fresh};
 ghost use Rattle.table.specs.Sound.{soundWith};
-ghost use Rattle.call_sets.specs.Load.{IsLoadKey, chosen, done, loaded};
+ghost use Rattle.call_sets.specs.Load.{IsLoadKey, chosen, loaded};
 ghost use Rattle.call_replies.specs.Replies.{loadedOf};
 ghost use Rattle.call_meaning.specs.Calls.{loadReply, loadAfter};
 ghost use Rattle.call_changes.specs.Known.{Known};
+ghost use Rattle.call_changes.specs.Done.{withDone};
 use call_replies::Loaded;
 use call_replies::SetUp;
 
@@ -32,7 +33,7 @@ fn operate(table: &mut [u64], many: usize, state: u64, keys: &mut [u64])
     requires { ⌜ Known many (now table) (now keys) ⌝ }
     requires { ⌜ All IsLoadKey (contentsOf many (now table) .keys) × (512 ≤ length (now keys)) ⌝ }
     ensures { λ _. ⌜ Known many (now (table .exit)) (now (keys .exit)) ⌝ }
-    ensures { λ _. ⌜ contentsOf many (now (table .exit)) ≡ record { order = contentsOf many (now (table .entry)) .order; keys = done many (chosen state) (contentsOf many (now (table .entry)) .keys) } ⌝ }
+    ensures { λ _. ⌜ contentsOf many (now (table .exit)) ≡ withDone many (chosen state) (contentsOf many (now (table .entry))) ⌝ }
 {
     let key = state / KEY_DIVISOR % KEY_COUNT as u64 + 1;
     let choice = state / CHOICE_DIVISOR;

@@ -48,6 +48,6 @@ abbrev pub doneAll : ℕ → List Operation → List ℕ → List ℕ
 doneAll many [] set = set
 doneAll many (operation ∷ operations) set = doneAll many operations (done many operation set)
 
--- "The end set": what so many operations from the seed on make of the empty set.
+-- "The end set": what so many operations from the seed on make of the empty set. The order does not matter for it.
 unfoldable pub loaded : ℕ → ℕ → ℕ → List ℕ
 loaded many seed count = doneAll many (operations seed count) []

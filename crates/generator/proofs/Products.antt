@@ -1,6 +1,6 @@
 -- A product modulo 2^64 from the products of halves of 32 bits. Assumes nothing.
 use mathlib.Core.Path.{_≡_, sym, ap, _∙_}
-use Prim.Native.Nat.{ℕ, _+_, _*_, _/_, _%_, _^_, _<_, _≤_}
+use Prim.Native.Nat.{ℕ, _+_, _*_, _/_, _%_, _^_, _<_}
 use native.Mathlib.Nat.{add-mul, mul-add, mul-assoc, mul-left-comm, mul-mul-mul-comm, mul-le-mul, mul-add-mod-self-left}
 use native.Mathlib.Omega.{arith}
 

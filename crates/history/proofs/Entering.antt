@@ -1,6 +1,6 @@
 -- A call over the fresh table of a book leaves the fresh table of the book in which it is noted, and that book is valid again. Assumes a
 -- valid book, and inputs that can be lent.
-use mathlib.Core.Bool.{true, false}
+use mathlib.Core.Bool.{false}
 use mathlib.Core.List.{List}
 use mathlib.Core.Logic.{_≢_}
 use mathlib.Core.Path.{_≡_, refl, sym, ap, _∙_}

@@ -1,6 +1,6 @@
 -- A load counts as its set-up and operations. Assumes nothing.
 use mathlib.Core.Bool.{true, false}
-use mathlib.Core.List.{List, [], _∷_, _++_, map}
+use mathlib.Core.List.{List, [], _∷_, _++_, map, flatMap}
 use mathlib.Core.Logic.{_≢_}
 use mathlib.Core.Path.{_≡_, refl, sym, ap, _∙_}
 use Prim.Native.Nat.{ℕ}
@@ -15,8 +15,9 @@ use Rattle.table.specs.Contents.{Contents, Valid, IsKey, newOrder}
 use Rattle.table.specs.Table.{fresh}
 use Rattle.call_sets.specs.Sets.{joined}
 use Rattle.call_sets.specs.Load.{Operation, inserting, deleting, lookingUp, operations, done, loaded}
+use Rattle.call_changes.specs.Done.{withDone, withAllDone}
 use Rattle.call_changes.proofs.Sets.{joined-length}
-use Rattle.call_changes.proofs.Loading.{keyOf, AboutKeys, withDone, withAllDone, done-valid, operations-keys, blank-valid}
+use Rattle.call_changes.proofs.Loading.{keyOf, AboutKeys, done-valid, operations-keys, blank-valid}
 use Rattle.call_meaning.specs.Reasons.{wrongLength, wrongOrder, zeroKey}
 use Rattle.call_meaning.specs.Calls.{loadRefusal}
 use Rattle.call_replies.proofs.Refusals.{none-applies}
@@ -137,6 +138,7 @@ stands-noted many (load order seed count) book =
     (λ e. rw e (sym (refused-noted many order seed count e book)))
 
 spelled-noted : (many : ℕ) (calls : List Call) (book : Contents) → notes many (spelledOut calls) book ≡ notes many calls book
+unfolding flatMap
 spelled-noted many [] book = refl
 spelled-noted many (call ∷ calls) book =
     notes-append many (standsFor call) (spelledOut calls) book
@@ -157,11 +159,13 @@ stands-lent (load order seed count) lent =
     by-test (newOrder order) (λ e. rw e (lent .0, operations-lent (operations seed count) (operations-keys seed count))) (λ e. rw e tt)
 
 spelled-lent : (calls : List Call) → All Lent calls → All Lent (spelledOut calls)
+unfolding flatMap
 spelled-lent [] lent = tt
 spelled-lent (call ∷ calls) lent =
     all-append Lent (standsFor call) (spelledOut calls) (stands-lent call (lent .0)) (spelled-lent calls (lent .1))
 
 plain : (history : History) → (other : History) × (callsOf other ≡ spelledOut (callsOf history))
+unfolding flatMap
 plain history = go (history .first) (history .accepted) (history .later) (history .lent)
   where
     go : (first : Opening) → Accepted first → (later : List Call) → All Lent (opened first ∷ later) → (other : History) × (callsOf other ≡ spelledOut (opened first ∷ later))

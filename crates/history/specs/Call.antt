@@ -1,7 +1,7 @@
 -- The calls of a history, what each leaves of the table and answers, the calls that a load stands for, and whole histories. Assumes
 -- nothing.
 use mathlib.Core.Bool.{true, cond}
-use mathlib.Core.List.{List, [], _∷_, _++_, map}
+use mathlib.Core.List.{List, [], _∷_, map, flatMap}
 use mathlib.Core.Path.{_≡_}
 use Prim.Native.Nat.{ℕ, _^_, _<_}
 use Rattle.lists.specs.Lists.{All}
@@ -116,8 +116,7 @@ standsFor (load order seed count) = cond (newOrder order) (callsOfLoad order see
 
 -- The calls that a list of calls stands for: none of them is a load.
 abbrev pub spelledOut : List Call → List Call
-spelledOut [] = []
-spelledOut (call ∷ calls) = standsFor call ++ spelledOut calls
+spelledOut calls = flatMap standsFor calls
 
 -- ---- histories
 -- How a history begins: with a set-up, or with a load, which "counts as its set-up and operations".

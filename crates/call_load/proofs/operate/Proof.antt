@@ -10,7 +10,7 @@ use Rattle.lists.specs.Lists.{Rising}
 use Rattle.call_sets.specs.Load.{Operation, lookingUp, IsLoadKey, chosen, done}
 use Rattle.call_changes.specs.Known.{Known}
 use Rattle.call_changes.proofs.Knowing.{known-valid}
-use Rattle.call_changes.proofs.Loading.{withDone}
+use Rattle.call_changes.specs.Done.{withDone}
 use Rattle.call_load.proofs.Choosing.{keyAt, chooses-insert, chooses-delete, chooses-lookup}
 use Rattle.call_load.proofs.Operating.{room-left, insert-operates, delete-operates}
 use borrow.Author.Needs.{needs}
@@ -81,7 +81,7 @@ insert-known-requires c κs =
     let p = c .before .before .before in
     let start = begun p in (
       known p,
-      (load-key p .0, λ absent (room : _ < _). omega (arith, start .pre .1 .1, room-left (key p) (contentsOf (many p) (words p) .keys) (load-key p) (start .pre .1 .0) (rises p) absent)),
+      (omega arith, λ absent (room : _ < _). omega (arith, start .pre .1 .1, room-left (key p) (contentsOf (many p) (words p) .keys) (load-key p) (start .pre .1 .0) (rises p) absent)),
     )
 
 same-length : tie.Need-same-length
@@ -95,7 +95,7 @@ returns c =
     let q = c .before .before .before .before in
     let t = q .before .before .before in
     let p = t .before in
-    (q .insert-known .ensures .1 .1, operated p (chooses-insert (state p) (t .if1 .taken)) (q .insert-known .ensures .1 .0) (insert-operates (many p) (words p) (listed p) (known p) (word-sized p) (key p) (is-key p)))
+    (q .insert-known .ensures .1 .1, operated p (chooses-insert (state p) (omega (arith, t .if1 .taken))) (q .insert-known .ensures .1 .0) (insert-operates (many p) (words p) (listed p) (known p) (word-sized p) (key p) (is-key p)))
 
 delete-known-requires : tie.Need-delete-known-requires
 delete-known-requires c κs = search needs
@@ -112,7 +112,7 @@ returns-2 c =
     let t = q .before .before .before in
     let p = t .before .before in
     let more = t .before .if1 .left in
-    (q .delete-known .ensures .1 .1, operated p (chooses-delete (state p) (omega arith) (t .if2 .taken)) (q .delete-known .ensures .1 .0) (delete-operates (many p) (words p) (listed p) (known p) (word-sized p) (key p) (is-key p)))
+    (q .delete-known .ensures .1 .1, operated p (chooses-delete (state p) (omega arith) (omega (arith, t .if2 .taken))) (q .delete-known .ensures .1 .0) (delete-operates (many p) (words p) (listed p) (known p) (word-sized p) (key p) (is-key p)))
 
 look-up-requires : tie.Need-look-up-requires
 look-up-requires c κs = search needs

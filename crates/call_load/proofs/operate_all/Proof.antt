@@ -53,7 +53,7 @@ loop-again c =
     let table-long : length (q .operate .last .0) ≡ length (p .loop .table) = omega (arith, c .before .before .before .table .given) in
     let keys-long : length (q .operate .last .1 .1 .1 .0) ≡ length (p .loop .keys) = omega (arith, c .before .keys .given) in (
       under-more (args .many) (args .table .now) (args .seed) (args .count) (p .loop .table) (p .loop .keys) (p .loop .state) (p .loop .left) (inv .0)
-          (turn .loop-test .taken) (q .before .before .before .next .result) (q .before .before .before .next .ensures) (q .operate .last .0) (q .operate .last .1 .1 .1 .0) (q .operate .ensures .0) keys-long (q .operate .ensures .1),
+          (omega (arith, turn .loop-test .taken)) (q .before .before .before .next .result) (q .before .before .before .next .ensures) (q .operate .last .0) (q .operate .last .1 .1 .1 .0) (q .operate .ensures .0) keys-long (q .operate .ensures .1),
       table-long ∙ inv .1,
       keys-long ∙ inv .2,
     )
