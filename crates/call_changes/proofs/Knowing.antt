@@ -8,25 +8,31 @@ use Rattle.table.specs.Layout.{mostSlots, sizeWord, tableWords}
 use Rattle.table.specs.Contents.{Contents, Valid}
 use Rattle.table.specs.Table.{fresh, contentsOf}
 use Rattle.table.proofs.Words.{fresh-length, fresh-size}
-use Rattle.table.proofs.Soundness.{WordSized, sound-exactly, sound-valid, shown-fit}
+use Rattle.table.proofs.Soundness.{WordSized, sound-exactly, sound-valid}
 use Rattle.table_examine.proofs.Examined.{Examined}
 use Rattle.call_changes.specs.Known.{Known}
 use Rattle.call_changes.proofs.Written.{sound-again, shows}
 
+-- What follows: the second word is the number of keys, so many begin the list, and they are what a table may hold.
+pub record Facts (many : ℕ) (words keys : List ℕ) : Type 0 where
+  pub size : getD words sizeWord 0 ≡ length (contentsOf many words .keys)
+  pub taken : take (getD words sizeWord 0) keys ≡ contentsOf many words .keys
+  pub valid : Valid many (contentsOf many words)
+  pub inside : length (contentsOf many words .keys) ≤ length keys
+
 module _ (many : ℕ) (words keys : List ℕ) (known : Known many words keys) where
-  -- the second word is the number of keys
-  pub known-size : getD words sizeWord 0 ≡ length (contentsOf many words .keys)
+  known-size : getD words sizeWord 0 ≡ length (contentsOf many words .keys)
   known-size =
       ap (λ (ws : List ℕ). getD ws sizeWord 0) (sound-exactly many words (known .sound)) ∙ fresh-size many (contentsOf many words)
 
-  pub known-valid : WordSized words → Valid many (contentsOf many words)
-  known-valid sized = sound-valid many words (known .sound) sized
-
-  pub known-most : length (contentsOf many words .keys) ≤ many
-  known-most = shown-fit many words
-
-  pub known-inside : length (contentsOf many words .keys) ≤ length keys
-  known-inside = omega (arith, length-take (length (contentsOf many words .keys)) keys, ap length (known .listed))
+  pub facts : WordSized words → Facts many words keys
+  facts sized =
+      record {
+        size = known-size;
+        taken = subst (λ (n : ℕ). take n keys ≡ contentsOf many words .keys) (sym known-size) (known .listed);
+        valid = sound-valid many words (known .sound) sized;
+        inside = omega (arith, length-take (length (contentsOf many words .keys)) keys, ap length (known .listed));
+      }
 
 -- a table that was examined
 pub known-examined : (many : ℕ) (words lent keys : List ℕ) (n : ℕ) → 0 < many → many ≤ mostSlots → length words ≡ tableWords many

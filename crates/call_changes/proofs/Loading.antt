@@ -12,8 +12,8 @@ use borrow.Author.Tests.{eqb-false}
 use Rattle.lists.specs.Lists.{All, member}
 use Rattle.lists.proofs.Tests.{by-test, or-false-left, or-false-right}
 use Rattle.table.specs.Contents.{Contents, IsKey, Valid, newOrder}
-use Rattle.call_sets.specs.Load.{Operation, inserting, deleting, lookingUp, keyFrom, IsLoadKey, highestBits, chosen, operations, done, loaded}
-use Rattle.call_changes.specs.Done.{withDone, withAllDone}
+use Rattle.call_sets.specs.Load.{Operation, inserting, deleting, lookingUp, keyFrom, highestBits, chosen, operations, done, doneAll, loaded}
+use Rattle.call_changes.specs.Done.{IsLoadKey, withDone}
 use Rattle.call_changes.proofs.Sets.{joined-all, joined-valid, without-all, without-valid}
 
 -- ---- the keys of operations
@@ -46,6 +46,10 @@ operations-keys s zero = tt
 operations-keys s (suc count) = (is-key _ (chosen-key _), operations-keys _ count)
 
 -- ---- sets
+-- The order and the set of a table, with what operations make of the set.
+abbrev pub withAllDone : ℕ → List Operation → Contents → Contents
+withAllDone many ops c = record { order = c .order; keys = doneAll many ops (c .keys) }
+
 pub done-all : (P : ℕ → Type 0) (many : ℕ) (operation : Operation) (set : List ℕ) → P (keyOf operation) → All P set → All P (done many operation set)
 unfolding done
 done-all P many (inserting key) set right all =

@@ -1,11 +1,12 @@
--- The order and the set of a table, with what operations of a load make of the set. Assumes nothing.
-use mathlib.Core.List.{List}
-use Prim.Native.Nat.{ℕ}
+-- What an operation of a load is done on, and what it leaves. Assumes nothing.
+use Prim.Native.Nat.{ℕ, _≤_}
 use Rattle.table.specs.Contents.{Contents}
-use Rattle.call_sets.specs.Load.{Operation, done, doneAll}
+use Rattle.call_sets.specs.Load.{Operation, done}
 
+-- A key of a load: 1 to 512.
+abbrev pub IsLoadKey : ℕ → Type 0
+IsLoadKey key = (1 ≤ key) × (key ≤ 512)
+
+-- The order and the set of a table, with what the operation makes of the set.
 abbrev pub withDone : ℕ → Operation → Contents → Contents
 withDone many operation c = record { order = c .order; keys = done many operation (c .keys) }
-
-abbrev pub withAllDone : ℕ → List Operation → Contents → Contents
-withAllDone many operations c = record { order = c .order; keys = doneAll many operations (c .keys) }

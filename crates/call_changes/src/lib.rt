@@ -1,1 +1,24 @@
-// What insert, delete and a load share: a table that is known to be sound, and laws of the sets and the tables that they leave; no code.
+// What insert, delete and a load share: coming to know that a table is sound, and laws of the sets and the tables that they leave.
+ghost use mathlib.Core.Path.{_≡_};
+ghost use mathlib.Core.Bool.{true};
+ghost use Prim.Native.Nat.{_<_, _≤_};
+ghost use lib.ListN.{length};
+ghost use Rattle.table.specs.Layout.{mostSlots, tableWords};
+ghost use Rattle.table.specs.Sound.{soundWith};
+ghost use Rattle.call_changes.specs.Known.{Known};
+use table_examine::Verdict;
+
+// Whether a table of `many` slots is sound; where it is, its keys, rising, are then at the start of `keys`; where it is not, what `keys`
+// holds is left open. Internal to this library's crates.
+pub fn know(table: &[u64], many: usize, keys: &mut [u64]) -> bool
+    requires { ⌜ (0 < many) × (many ≤ mostSlots) × (length (now table) ≡ tableWords many) × (many ≤ length (now keys)) ⌝ }
+    ensures { λ r. ⌜ r ≡ soundWith many (now (table .entry)) ⌝ }
+    ensures { λ r. ⌜ (r ≡ true → Known many (now (table .entry)) (now (keys .exit))) ⌝ }
+{
+    let found = table_judge::examine_sized(table, many, keys);
+    if let Verdict::Sound(_) = found {
+        true
+    } else {
+        false
+    }
+}

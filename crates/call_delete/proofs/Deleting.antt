@@ -1,8 +1,8 @@
 -- What the tests of a delete say of its reply and of the table after it. Assumes nothing.
 use mathlib.Core.Bool.{true, false}
-use mathlib.Core.List.{List, [], _∷_}
+use mathlib.Core.List.{List}
 use mathlib.Core.Logic.{_≢_}
-use mathlib.Core.Path.{_≡_, ap, _∙_}
+use mathlib.Core.Path.{_≡_}
 use Prim.Native.Nat.{ℕ, _<_, _≤_}
 use native.Mathlib.Omega.{arith}
 use lib.Dec.{eqb}
@@ -19,7 +19,7 @@ use Rattle.call_replies.specs.Replies.{deletedOf}
 use Rattle.call_replies.specs.declared.Refusal.the-variants.{WrongLength, ZeroKey, NotSound, KeyAbsent}
 use Rattle.call_replies.specs.declared.Deleted.{Deleted}
 use Rattle.call_replies.specs.declared.Deleted.the-variants.{Rank, Refused}
-use Rattle.call_meaning.specs.Reasons.{wrongLength, zeroKey, notSound, keyAbsent, shown}
+use Rattle.call_meaning.specs.Reasons.{wrongLength, zeroKey, notSound, keyAbsent}
 use Rattle.call_meaning.specs.Calls.{rankIn, rewritten, shrunk, deleteRefusal, deleteReply, deleteAfter}
 use Rattle.call_meaning.proofs.Judged.{slots-here, right-length, judged, shown-is, member-shown}
 

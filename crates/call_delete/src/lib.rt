@@ -10,7 +10,6 @@ use call_replies::Deleted;
 use call_replies::Refusal;
 use table::ORDER_WORD;
 use table::SIZE_WORD;
-use table_examine::Verdict;
 
 // Delete a key from a sound table of `many` slots, its keys at the start of `keys`, as they then are again. Internal to this library's
 // crates: they have judged the table, or written it.
@@ -38,10 +37,9 @@ fn delete_in(table: &mut [u64], many: usize, key: u64, keys: &mut [u64]) -> Dele
     ensures { λ r. ⌜ deletedOf r ≡ deleteReply (now (table .entry)) key ⌝ }
     ensures { λ _. ⌜ now (table .exit) ≡ deleteAfter (now (table .entry)) key ⌝ }
 {
-    let found = table_judge::examine_sized(table, many, keys);
-    let Verdict::Sound(_) = found else {
+    if !call_changes::know(table, many, keys) {
         return Deleted::Refused(Refusal::NotSound);
-    };
+    }
     delete_known(table, many, key, keys)
 }
 

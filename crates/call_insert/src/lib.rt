@@ -10,7 +10,6 @@ use call_replies::Inserted;
 use call_replies::Refusal;
 use table::ORDER_WORD;
 use table::SIZE_WORD;
-use table_examine::Verdict;
 
 // Insert a key into a sound table of `many` slots, its keys at the start of `keys`, as they then are again. Internal to this library's
 // crates: they have judged the table, or written it.
@@ -40,10 +39,9 @@ fn insert_in(table: &mut [u64], many: usize, key: u64, keys: &mut [u64]) -> Inse
     ensures { λ r. ⌜ insertedOf r ≡ insertReply (now (table .entry)) key ⌝ }
     ensures { λ _. ⌜ now (table .exit) ≡ insertAfter (now (table .entry)) key ⌝ }
 {
-    let found = table_judge::examine_sized(table, many, keys);
-    let Verdict::Sound(_) = found else {
+    if !call_changes::know(table, many, keys) {
         return Inserted::Refused(Refusal::NotSound);
-    };
+    }
     insert_known(table, many, key, keys)
 }
 

@@ -1,6 +1,6 @@
 -- What insert and delete make of a table that is known to be sound is what the rules of a load make of its set. Assumes nothing.
 use mathlib.Core.Bool.{false}
-use mathlib.Core.List.{List, [], _∷_}
+use mathlib.Core.List.{List}
 use mathlib.Core.Path.{_≡_, refl, sym, ap, _∙_}
 use Prim.Native.Nat.{ℕ, _<_}
 use native.Mathlib.Omega.{arith}
@@ -14,13 +14,13 @@ use Rattle.table.specs.Contents.{Contents, IsKey}
 use Rattle.table.specs.Table.{fresh, contentsOf}
 use Rattle.table.proofs.Reading.{contents-of-fresh}
 use Rattle.table.proofs.Soundness.{WordSized}
-use Rattle.call_sets.specs.Load.{inserting, deleting, IsLoadKey, done}
+use Rattle.call_sets.specs.Load.{inserting, deleting, done}
 use Rattle.call_sets.specs.Sets.{joined}
 use Rattle.call_meaning.specs.Calls.{rankIn, insertAfter, deleteAfter}
 use Rattle.call_changes.specs.Known.{Known}
 use Rattle.call_changes.proofs.Sets.{joined-length, joined-all, joined-rising, joined-valid, without-valid}
-use Rattle.call_changes.proofs.Knowing.{known-valid, known-most}
-use Rattle.call_changes.specs.Done.{withDone}
+use Rattle.call_changes.proofs.Knowing.{facts}
+use Rattle.call_changes.specs.Done.{IsLoadKey, withDone}
 use Rattle.call_insert.proofs.Inserting as inserts
 use Rattle.call_delete.proofs.Deleting as deletes
 
@@ -39,7 +39,7 @@ module _ (many : ℕ) (words keys : List ℕ) (known : Known many words keys) (s
   pub insert-operates : contentsOf many (insertAfter words key) ≡ withDone many (inserting key) shown
   unfolding done
   insert-operates =
-      let valid = known-valid many words keys known sized in
+      let valid = facts many words keys known sized .valid in
       let grown = inserts.withKey many words key in
       by-test (member key (shown .keys))
       (λ held.
@@ -56,7 +56,7 @@ module _ (many : ℕ) (words keys : List ℕ) (known : Known many words keys) (s
       (eqb-true (length (shown .keys)) many full) .1))))
       (λ free.
       let apart = eqb-false (length (shown .keys)) many free in
-      let room : length (shown .keys) < many = omega (arith, known-most many words keys known) in
+      let room : length (shown .keys) < many = omega (arith, valid .keys-fit) in
       rw (absent, free)
       (ap (contentsOf many)
       (sym
@@ -67,7 +67,7 @@ module _ (many : ℕ) (words keys : List ℕ) (known : Known many words keys) (s
   pub delete-operates : contentsOf many (deleteAfter words key) ≡ withDone many (deleting key) shown
   unfolding done
   delete-operates =
-      let valid = known-valid many words keys known sized in
+      let valid = facts many words keys known sized .valid in
       let shrunk = deletes.withoutKey many words key in
       by-test (member key (shown .keys))
       (λ held.

@@ -12,9 +12,9 @@ use Rattle.table.specs.Contents.{Contents}
 use Rattle.table.specs.Table.{fresh, contentsOf}
 use Rattle.table.specs.Sound.{soundWith}
 use Rattle.table.proofs.Soundness.{sound-exactly}
-use Rattle.call_sets.specs.Load.{IsLoadKey, chosen, operations, done, doneAll, loaded}
+use Rattle.call_sets.specs.Load.{chosen, operations, done, doneAll, loaded}
 use Rattle.call_changes.specs.Known.{Known}
-use Rattle.call_changes.specs.Done.{withDone}
+use Rattle.call_changes.specs.Done.{IsLoadKey, withDone}
 use Rattle.call_changes.proofs.Loading.{chosen-key, done-all}
 
 -- Between two operations: the table is known, its keys are a load's, and its order is the one that it was set up with.

@@ -8,11 +8,11 @@ ghost use Rattle.lists.specs.Lists.{All};
 ghost use Rattle.table.specs.Layout.{mostSlots, tableWords};
 ghost use Rattle.table.specs.Table.{contentsOf, fresh};
 ghost use Rattle.table.specs.Sound.{soundWith};
-ghost use Rattle.call_sets.specs.Load.{IsLoadKey, chosen, loaded};
+ghost use Rattle.call_sets.specs.Load.{chosen, loaded};
 ghost use Rattle.call_replies.specs.Replies.{loadedOf};
 ghost use Rattle.call_meaning.specs.Calls.{loadReply, loadAfter};
 ghost use Rattle.call_changes.specs.Known.{Known};
-ghost use Rattle.call_changes.specs.Done.{withDone};
+ghost use Rattle.call_changes.specs.Done.{IsLoadKey, withDone};
 use call_replies::Loaded;
 use call_replies::SetUp;
 

@@ -1,7 +1,7 @@
 -- A load by the rules of document 02, N1, alone: over plain sets, without the treap. M, the number of slots, is `many`. Assumes nothing.
 use mathlib.Core.Bool.{cond, _||_}
 use mathlib.Core.List.{List, [], _∷_}
-use Prim.Native.Nat.{ℕ, zero, suc, _+_, _/_, _%_, _^_, _≤_}
+use Prim.Native.Nat.{ℕ, zero, suc, _+_, _/_, _%_, _^_}
 use lib.Dec.{eqb}
 use lib.ListN.{length}
 use Rattle.generator.specs.Generator.{next}
@@ -17,10 +17,6 @@ pub data Operation : Type 0 where
 -- "The key is floor(s / 2^32) mod 512, plus 1."
 unfoldable pub keyFrom : ℕ → ℕ
 keyFrom s = s / 2 ^ 32 % 512 + 1
-
--- The keys that come so: 1 to 512.
-abbrev pub IsLoadKey : ℕ → Type 0
-IsLoadKey key = (1 ≤ key) × (key ≤ 512)
 
 -- "The two highest bits of s".
 unfoldable pub highestBits : ℕ → ℕ

@@ -15,9 +15,9 @@ use Rattle.table.specs.Contents.{Contents, Valid, IsKey, newOrder}
 use Rattle.table.specs.Table.{fresh}
 use Rattle.call_sets.specs.Sets.{joined}
 use Rattle.call_sets.specs.Load.{Operation, inserting, deleting, lookingUp, operations, done, loaded}
-use Rattle.call_changes.specs.Done.{withDone, withAllDone}
+use Rattle.call_changes.specs.Done.{withDone}
 use Rattle.call_changes.proofs.Sets.{joined-length}
-use Rattle.call_changes.proofs.Loading.{keyOf, AboutKeys, done-valid, operations-keys, blank-valid}
+use Rattle.call_changes.proofs.Loading.{keyOf, AboutKeys, withAllDone, done-valid, operations-keys, blank-valid}
 use Rattle.call_meaning.specs.Reasons.{wrongLength, wrongOrder, zeroKey}
 use Rattle.call_meaning.specs.Calls.{loadRefusal}
 use Rattle.call_replies.proofs.Refusals.{none-applies}

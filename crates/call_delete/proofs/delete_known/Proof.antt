@@ -12,13 +12,12 @@ use Rattle.lists.proofs.Start.{starts-with, as-long}
 use Rattle.table.specs.Layout.{sizeWord}
 use Rattle.table.specs.Contents.{Contents, Valid}
 use Rattle.table.specs.Table.{fresh, contentsOf}
-use Rattle.table.proofs.Soundness.{WordSized}
 use Rattle.call_sets.specs.Sets.{without}
 use Rattle.table_prepare.proofs.Writable.{valid-keys}
 use Rattle.call_changes.specs.Known.{Known}
 use Rattle.call_changes.proofs.Sets.{without-valid, without-fewer}
 use Rattle.call_changes.proofs.Written.{ranked, written-with, writable-with}
-use Rattle.call_changes.proofs.Knowing.{known-size, known-valid, known-inside, known-again}
+use Rattle.call_changes.proofs.Knowing.{Facts, facts, known-again}
 use Rattle.call_delete.proofs.Deleting.{withoutKey, refused-absent, accepted}
 use borrow.Author.Needs.{needs}
 use Rattle.call_delete.proofs.delete_known.Statement.{statement}
@@ -55,17 +54,8 @@ size p = getD (words p) sizeWord 0
 known : (p : tie.After-holds) → Known (many p) (words p) (listed p)
 known p = begun p .pre .0
 
-size-is : (p : tie.After-holds) → size p ≡ length (shown p .keys)
-size-is p = known-size (many p) (words p) (listed p) (known p)
-
-taken-first : (p : tie.After-holds) → take (size p) (listed p) ≡ shown p .keys
-taken-first p = subst (λ (n : ℕ). take n (listed p) ≡ shown p .keys) (sym (size-is p)) (known p .listed)
-
-word-sized : (p : tie.After-holds) → WordSized (words p)
-word-sized p i = omega (arith, p .before .before .before .slice-known .given i)
-
-valid : (p : tie.After-holds) → Valid (many p) (shown p)
-valid p = known-valid (many p) (words p) (listed p) (known p) (word-sized p)
+told : (p : tie.After-holds) → Facts (many p) (words p) (listed p)
+told p = facts (many p) (words p) (listed p) (known p) (λ i. omega (arith, p .before .before .before .slice-known .given i))
 
 held-or-not : (p : tie.After-holds) (b : Bool) → p .holds .result ≡ b → member (key p) (shown p .keys) ≡ b
 held-or-not p b e = sym (p .holds .ensures) ∙ e
@@ -79,7 +69,7 @@ abbrev goal : tie.After-holds → Contents
 goal p = withoutKey (many p) (words p) (key p)
 
 goal-valid : (p : tie.After-holds) → Valid (many p) (goal p)
-goal-valid p = without-valid (key p) (many p) (shown p) (valid p)
+goal-valid p = without-valid (key p) (many p) (shown p) (told p .valid)
 
 -- ---- the list without the key
 abbrev held-at : tie.After-take-out → tie.Else1
@@ -94,12 +84,12 @@ rest p = p .take-out .last .0
 left-size : (p : tie.After-take-out) → p .take-out .result ≡ length (goal (asked-at p) .keys)
 left-size p =
     let q = asked-at p in
-    p .take-out .ensures .0 ∙ ap (λ (ks : List ℕ). length (without (key q) ks)) (taken-first q)
+    p .take-out .ensures .0 ∙ ap (λ (ks : List ℕ). length (without (key q) ks)) (told q .taken)
 
 rest-is : (p : tie.After-take-out) → rest p ≡ overwrite (listed (asked-at p)) 0 (goal (asked-at p) .keys)
 rest-is p =
     let q = asked-at p in
-    p .take-out .ensures .1 ∙ ap (λ (ks : List ℕ). overwrite (listed q) 0 (without (key q) ks)) (taken-first q)
+    p .take-out .ensures .1 ∙ ap (λ (ks : List ℕ). overwrite (listed q) 0 (without (key q) ks)) (told q .taken)
 
 inside : (p : tie.After-take-out) → p .take-out .result ≤ length (rest p)
 inside p =
@@ -108,7 +98,7 @@ inside p =
     omega (arith, left-size p, room, as-long (rest p) (listed q) (goal q .keys) (length (goal q .keys)) (rest-is p) refl room)
   where
     fewer : (q : tie.After-holds) → length (goal q .keys) ≤ length (listed q)
-    fewer q = omega (arith, without-fewer (key q) (shown q .keys), known-inside (many q) (words q) (listed q) (known q))
+    fewer q = omega (arith, without-fewer (key q) (shown q .keys), told q .inside)
 
 taken : (p : tie.After-take-out) → take (p .take-out .result) (rest p) ≡ goal (asked-at p) .keys
 taken p =
@@ -166,7 +156,7 @@ rank-of-requires c κs =
 take-out-requires : tie.Need-take-out-requires
 take-out-requires c κs =
     let q = c .before .before .before .before .before .before in
-    omega (arith, size-is q, known-inside (many q) (words q) (listed q) (known q))
+    omega (arith, told q .size, told q .inside)
 
 slice-reshare-prefix-write : tie.Need-slice-reshare-prefix-write
 slice-reshare-prefix-write c = inside (c .before .before)

@@ -11,13 +11,12 @@ use Rattle.lists.proofs.Start.{as-long}
 use Rattle.table.specs.Layout.{sizeWord}
 use Rattle.table.specs.Contents.{Contents, Valid}
 use Rattle.table.specs.Table.{fresh, contentsOf}
-use Rattle.table.proofs.Soundness.{WordSized}
 use Rattle.call_sets.specs.Sets.{joined}
 use Rattle.table_prepare.proofs.Writable.{valid-keys}
 use Rattle.call_changes.specs.Known.{Known}
 use Rattle.call_changes.proofs.Sets.{joined-length, joined-member, joined-valid}
 use Rattle.call_changes.proofs.Written.{shows, ranked, written-with, writable-with}
-use Rattle.call_changes.proofs.Knowing.{known-size, known-valid, known-most, known-again}
+use Rattle.call_changes.proofs.Knowing.{Facts, facts, known-again}
 use Rattle.call_insert.proofs.Inserting.{withKey, put-taken, refused-held, refused-full, accepted}
 use borrow.Author.Needs.{needs}
 use Rattle.call_insert.proofs.insert_known.Statement.{statement}
@@ -54,17 +53,8 @@ size p = getD (words p) sizeWord 0
 known : (p : tie.After-holds) → Known (many p) (words p) (listed p)
 known p = begun p .pre .0
 
-size-is : (p : tie.After-holds) → size p ≡ length (shown p .keys)
-size-is p = known-size (many p) (words p) (listed p) (known p)
-
-taken-first : (p : tie.After-holds) → take (size p) (listed p) ≡ shown p .keys
-taken-first p = subst (λ (n : ℕ). take n (listed p) ≡ shown p .keys) (sym (size-is p)) (known p .listed)
-
-word-sized : (p : tie.After-holds) → WordSized (words p)
-word-sized p i = omega (arith, p .before .before .before .slice-known .given i)
-
-valid : (p : tie.After-holds) → Valid (many p) (shown p)
-valid p = known-valid (many p) (words p) (listed p) (known p) (word-sized p)
+told : (p : tie.After-holds) → Facts (many p) (words p) (listed p)
+told p = facts (many p) (words p) (listed p) (known p) (λ i. omega (arith, p .before .before .before .slice-known .given i))
 
 held-or-not : (p : tie.After-holds) (b : Bool) → p .holds .result ≡ b → member (key p) (shown p .keys) ≡ b
 held-or-not p b e = sym (p .holds .ensures) ∙ e
@@ -80,12 +70,12 @@ room : (p : tie.Else2) → length (shown (free-at p) .keys) < many (free-at p)
 room p =
     let q = free-at p in
     let d = p .if2 .left in
-    omega (arith, size-is q, known-most (many q) (words q) (listed q) (known q))
+    omega (arith, told q .size, told q .valid .keys-fit)
 
 fits : (p : tie.Else2) → size (free-at p) < length (listed (free-at p))
 fits p =
     let q = free-at p in
-    omega (arith, size-is q, begun q .pre .1 .1 (absent p) (room p))
+    omega (arith, told q .size, begun q .pre .1 .1 (absent p) (room p))
 
 -- The table's contents with the key.
 abbrev goal : tie.After-holds → Contents
@@ -94,7 +84,7 @@ goal p = withKey (many p) (words p) (key p)
 goal-valid : (p : tie.Else2) → Valid (many (free-at p)) (goal (free-at p))
 goal-valid p =
     let q = free-at p in
-    joined-valid (key q) (many q) (shown q) (valid q) (begun q .pre .1 .0, omega (arith, begun q .fits .key)) (absent p) (room p)
+    joined-valid (key q) (many q) (shown q) (told q .valid) (begun q .pre .1 .0, omega (arith, begun q .fits .key)) (absent p) (room p)
 
 -- ---- the list with the key
 abbrev put-at : tie.After-put-in → tie.Else2
@@ -107,7 +97,7 @@ longer : (p : tie.After-put-in) → length (p .put-in .last .0) ≡ length (list
 longer p =
     let q = after-put p in
     as-long (p .put-in .last .0) (listed q) (joined (key q) (take (size q) (listed q))) (size q + 1) (p .put-in .ensures)
-    (joined-length (key q) (take (size q) (listed q)) ∙ omega (arith, ap length (taken-first q), size-is q))
+    (joined-length (key q) (take (size q) (listed q)) ∙ omega (arith, ap length (told q .taken), told q .size))
     (omega (arith, fits (put-at p)))
 
 inside : (p : tie.After-put-in) → size (after-put p) + 1 ≤ length (p .put-in .last .0)
@@ -116,7 +106,7 @@ inside p = omega (arith, longer p, fits (put-at p))
 taken : (p : tie.After-put-in) → take (size (after-put p) + 1) (p .put-in .last .0) ≡ goal (after-put p) .keys
 taken p =
     let q = after-put p in
-    put-taken (listed q) (p .put-in .last .0) (shown q .keys) (size q) (key q) (taken-first q) (sym (size-is q)) (p .put-in .ensures)
+    put-taken (listed q) (p .put-in .last .0) (shown q .keys) (size q) (key q) (told q .taken) (sym (told q .size)) (p .put-in .ensures)
 
 -- ---- the table written
 abbrev put-before : tie.After-write → tie.After-put-in
@@ -136,7 +126,7 @@ written p =
 known-then : (p : tie.After-write) → Known (many (after-write p)) (table-then p) (put-before p .put-in .last .0)
 known-then p =
     let q = after-write p in
-    let long : length (goal q .keys) ≡ size q + 1 = joined-length (key q) (shown q .keys) ∙ omega (arith, size-is q) in
+    let long : length (goal q .keys) ≡ size q + 1 = joined-length (key q) (shown q .keys) ∙ omega (arith, told q .size) in
     known-again (many q) (table-then p) (put-before p .put-in .last .0) (goal q) (known q .some) (known q .most) (goal-valid (put-at (put-before p)))
     (written p)
     (ap (λ (n : ℕ). take n (put-before p .put-in .last .0)) long ∙ taken (put-before p))
@@ -168,7 +158,7 @@ returns-2 c =
     let k = known q in
     let meets =
     refused-full (words q) (key q) (many q) (k .some) (k .most) (k .long) (begun q .pre .1 .0) (k .sound)
-    (held-or-not q false (c .before .before .if1 .left)) (sym (size-is q) ∙ c .if2 .taken)
+    (held-or-not q false (c .before .before .if1 .left)) (sym (told q .size) ∙ c .if2 .taken)
     in
     (meets .0, (meets .1, k))
 
@@ -178,13 +168,13 @@ slice-read-order c = search needs
 put-in-requires : tie.Need-put-in-requires
 put-in-requires c κs =
     let e = c .before .before in
-    (fits e, subst Rising (sym (taken-first (free-at e))) (valid (free-at e) .keys-rise))
+    (fits e, subst Rising (sym (told (free-at e) .taken)) (told (free-at e) .valid .keys-rise))
 
 add-write : tie.Need-add-write
 add-write c =
     let e = put-at (c .before .before) in
     let q = free-at e in
-    omega (arith, size-is q, room e, known q .most)
+    omega (arith, told q .size, room e, known q .most)
 
 slice-reshare-prefix-write : tie.Need-slice-reshare-prefix-write
 slice-reshare-prefix-write c = inside (c .before .before)

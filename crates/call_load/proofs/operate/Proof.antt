@@ -7,10 +7,10 @@ use Rattle.table.specs.Contents.{IsKey}
 use Rattle.table.specs.Table.{contentsOf}
 use Rattle.table.proofs.Soundness.{WordSized}
 use Rattle.lists.specs.Lists.{Rising}
-use Rattle.call_sets.specs.Load.{Operation, lookingUp, IsLoadKey, chosen, done}
+use Rattle.call_sets.specs.Load.{Operation, lookingUp, chosen, done}
 use Rattle.call_changes.specs.Known.{Known}
-use Rattle.call_changes.proofs.Knowing.{known-valid}
-use Rattle.call_changes.specs.Done.{withDone}
+use Rattle.call_changes.proofs.Knowing.{facts}
+use Rattle.call_changes.specs.Done.{IsLoadKey, withDone}
 use Rattle.call_load.proofs.Choosing.{keyAt, chooses-insert, chooses-delete, chooses-lookup}
 use Rattle.call_load.proofs.Operating.{room-left, insert-operates, delete-operates}
 use borrow.Author.Needs.{needs}
@@ -51,7 +51,7 @@ is-key : (p : tie.After-slice-known2) → IsKey (key p)
 is-key p = (omega arith, omega arith)
 
 rises : (p : tie.After-slice-known2) → Rising (contentsOf (many p) (words p) .keys)
-rises p = known-valid (many p) (words p) (listed p) (known p) (word-sized p) .keys-rise
+rises p = facts (many p) (words p) (listed p) (known p) (word-sized p) .valid .keys-rise
 
 -- ---- the table after the operation
 abbrev state : tie.After-slice-known2 → ℕ
