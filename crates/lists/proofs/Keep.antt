@@ -1,11 +1,11 @@
 -- Laws of `keep`, the filter by a Bool test, and of `All`. Assumes nothing.
-use mathlib.Core.Bool.{Bool, true, false, _||_, _&&_, not}
+use mathlib.Core.Bool.{Bool, true, false, _||_}
 use mathlib.Core.List.{List, [], _∷_, _++_, map}
 use mathlib.Core.Path.{_≡_, refl, sym, ap, ap₂, _∙_, subst}
 use Prim.Native.Nat.{ℕ, zero, suc, _+_, _≤_, _<_}
 use native.Mathlib.Omega.{arith}
 use lib.ListN.{length, getD, set, replicate}
-use Rattle.lists.specs.Lists.{consIf, keep, every, some, All}
+use Rattle.lists.specs.Lists.{consIf, keep, every, All}
 use Rattle.lists.proofs.Tests.{by-test, true-or-false, and-left, and-right, and-both}
 
 module _ {A : Type 0} where
@@ -141,6 +141,11 @@ module _ {A : Type 0} where
   every-says f (x ∷ xs) h = (and-left (f x) (every f xs) h, every-says f xs (and-right (f x) (every f xs) h))
 
 -- functions that agree on the elements have the same map
+-- what each of many things holds of all elements, every element has of each of them
+pub all-for-each : {A B : Type 0} (P : A → Type 0) (Q : A → B → Type 0) (ys : List B) → ((x : A) → P x → All (Q x) ys) → All (λ y. (x : A) → P x → Q x y) ys
+all-for-each P Q [] f = tt
+all-for-each P Q (y ∷ ys) f = ((λ x h. f x h .0), all-for-each P Q ys (λ x h. f x h .1))
+
 pub map-same : {A B : Type 0} (f g : A → B) (xs : List A) → All (λ x. f x ≡ g x) xs → map f xs ≡ map g xs
 map-same f g [] h = refl
 map-same {A} {B} f g (x ∷ xs) h = ap₂ (λ (y : B) (ys : List B). y ∷ ys) (h .0) (map-same f g xs (h .1))

@@ -1,5 +1,5 @@
 -- Laws of `member`, `first`, `last` and `largest`, on lists of numbers. Assumes nothing.
-use mathlib.Core.Bool.{Bool, true, false, cond, _||_, _&&_, not, or-assoc}
+use mathlib.Core.Bool.{Bool, true, false, cond, _||_, _&&_, or-assoc}
 use mathlib.Core.List.{List, [], _∷_, _++_, map}
 use mathlib.Core.Logic.{_⊎_, _≢_, inl, inr, ⊎-elim}
 use mathlib.Core.Path.{_≡_, refl, sym, ap, ap₂, _∙_, subst}
@@ -8,9 +8,8 @@ use native.Mathlib.Omega.{arith}
 use lib.Dec.{eqb}
 use lib.ListN.{length}
 use borrow.Author.Tests.{eqb-true, eqb-false, eq-eqb, ne-eqb}
-use Rattle.lists.specs.Lists.{consIf, keep, every, some, All, member, first, last, largest, same}
+use Rattle.lists.specs.Lists.{consIf, keep, some, All, member, first, last, largest, same}
 use Rattle.lists.proofs.Tests.{by-test, true-or-false, or-true-cases, or-true-left, or-true-right, or-both-false, and-left, and-right, and-both, same-test}
-use Rattle.lists.proofs.Keep.{keep-none}
 
 pub eqb-same : (x : ℕ) → eqb x x ≡ true
 eqb-same x = eq-eqb x x refl
@@ -66,6 +65,10 @@ member-keep f x (y ∷ ys) =
     ∙ or-and (f x) (eqb x y) (member x ys)
 
 -- ---- some, and members of a map
+pub some-same : (f g : ℕ → Bool) (xs : List ℕ) → All (λ x. f x ≡ g x) xs → some f xs ≡ some g xs
+some-same f g [] h = refl
+some-same f g (x ∷ xs) h = ap₂ (λ a b. a || b) (h .0) (some-same f g xs (h .1))
+
 pub some-when : (f : ℕ → Bool) (xs : List ℕ) (y : ℕ) → member y xs ≡ true → f y ≡ true → some f xs ≡ true
 some-when f [] y m e = absurd (true-or-false false m refl)
 some-when f (x ∷ xs) y m e =

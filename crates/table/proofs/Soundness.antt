@@ -9,7 +9,7 @@ use native.Mathlib.Omega.{arith}
 use lib.Dec.{ltb}
 use lib.ListN.{length, getD, length-map}
 use lib.Seq.{take-length}
-use Rattle.lists.specs.Lists.{nonzero, keep, All, sortBy, same, upFrom, risesB}
+use Rattle.lists.specs.Lists.{nonzero, keep, All, sortBy, same, upFrom, risesB, Rising}
 use Rattle.lists.proofs.Copying.{kept}
 use Rattle.lists.proofs.Tests.{nonzero-says, and-left, and-right, and-both}
 use Rattle.lists.proofs.Keep.{all-map, all-both, all-always, all-mapped, all-keep, kept-pass, length-keep}
@@ -93,13 +93,19 @@ module _ (many : ℕ) (words : List ℕ) (passed : soundWith many words ≡ true
   pub sound-exactly : words ≡ fresh many (contentsOf many words)
   sound-exactly = same-says words (fresh many (contentsOf many words)) (and-right (risesB (contentsOf many words .keys)) _ rest-passed)
 
-  pub sound-valid : WordSized words → Valid many (contentsOf many words)
+  pub sound-order : tableOrder (contentsOf many words .order) ≡ true
   unfolding soundWith
+  sound-order = and-left (tableOrder (contentsOf many words .order)) _ passed
+
+  pub sound-rises : Rising (contentsOf many words .keys)
+  sound-rises = rises-says (contentsOf many words .keys) (and-left (risesB (contentsOf many words .keys)) _ rest-passed)
+
+  pub sound-valid : WordSized words → Valid many (contentsOf many words)
   sound-valid bounded =
       record {
-        order-right = and-left (tableOrder (contentsOf many words .order)) _ passed;
+        order-right = sound-order;
         keys-right = shown-keys many words bounded;
-        keys-rise = rises-says (contentsOf many words .keys) (and-left (risesB (contentsOf many words .keys)) _ rest-passed);
+        keys-rise = sound-rises;
         keys-fit = shown-fit many words;
       }
 

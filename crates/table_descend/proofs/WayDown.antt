@@ -1,54 +1,74 @@
--- The way down the treap of a table: where it starts, how it goes on, and what it has found at its end.
+-- The way down the treap of a table after earlier lookups: where it starts, how it goes on, and what it has found at its end.
 -- Assumes valid contents.
-use mathlib.Core.Bool.{true}
-use mathlib.Core.List.{List, [], _∷_, map}
+use mathlib.Core.Bool.{Bool, true, false, cond, not, _&&_}
+use mathlib.Core.List.{List, [], _∷_}
 use mathlib.Core.Logic.{_≢_}
 use mathlib.Core.Path.{_≡_, refl, sym, ap, _∙_, subst}
-use Prim.Native.Nat.{ℕ, suc, _+_, _<_, _≤_}
+use Prim.Native.Nat.{ℕ, suc, pred, _+_, _<_, _≤_}
 use native.Mathlib.Omega.{arith}
+use lib.Dec.{eqb, ltb}
 use lib.ListN.{length}
-use Rattle.lists.specs.Lists.{member, distinct, All, Rising}
-use Rattle.lists.proofs.Tests.{lies-says}
+use borrow.Author.Tests.{eqb-true, eqb-false, eq-eqb, ltb-true, ltb-false, lt-ltb, le-ltb}
+use Rattle.lists.specs.Lists.{nonzero, some, member, All, Rising}
+use Rattle.lists.proofs.Tests.{by-test, same-test, lies-says, or-true-left, nonzero-when, and-both}
 use Rattle.lists.proofs.Keep.{all-map}
 use Rattle.lists.proofs.Membership.{all-member}
-use Rattle.lists.proofs.Pairwise.{pairwise-mapped}
+use Rattle.lists.proofs.Changes.{new, changes, changes-same, Counted, counted-on, counted-most}
 use Rattle.priority.specs.Priority.{priorityOf}
 use Rattle.treap.specs.Treap.{Tree, keys, rootKey, subtree, path, top, treap}
 use Rattle.treap.specs.Treap.Tree.{leaf}
-use Rattle.treap.specs.Levels.{rank}
-use Rattle.treap.specs.Blocks.{rootRank, blocksMet}
+use Rattle.treap.specs.Levels.{leader}
+use Rattle.treap.specs.Blocks.{Block, rootRank, rootBlock, block, blocks, meets}
 use Rattle.treap_structure.proofs.Shape.{size, length-keys, top-member, treap-keys, treap-good}
-use Rattle.treap_structure.proofs.Subtrees.{inside, good-subtree}
-use Rattle.treap_structure.proofs.Blocks.{top-is-root, blockLevel, level-of-root}
-use Rattle.treap_structure.proofs.SearchPath.{path-levels-fall, blocks-met-is}
+use Rattle.treap_structure.proofs.Subtrees.{good-subtree}
+use Rattle.treap_structure.proofs.Blocks.{top-is-root, blockLevel, blockOf, level-of-root}
+use Rattle.treap_structure.proofs.Descent.{root-subtree, zero-subtree, side, path-begins, path-here, path-on, side-smaller, member-on}
+use Rattle.treap_structure.proofs.Children.{child, positive-in-tree, has-root, some-root, own-path, side-is, child-key, goes-by, comes-by}
+use Rattle.treap_structure.proofs.Entrances.{ofLevel}
+use Rattle.treap_structure.proofs.MetBetween.{root-met}
+use Rattle.treap_structure.proofs.NewBlocks.{new-blocks-change}
 use Rattle.table.specs.Layout.{leastOrder, greatestOrder}
 use Rattle.table.specs.Contents.{Contents, tableOrder, IsKey, Valid}
-use Rattle.table_descend.specs.Lookup.{standingOf, lookedUp}
 use Rattle.table_entries.specs.Steps.{nextKey}
+use Rattle.table_descend.specs.Lookup.{standingOf, earlier, newlyMet, lookedUpAfter}
+use Rattle.table_descend.specs.Entering.{firstBlock, otherThan, newBlock, lowAfter}
 use Rattle.table_descend.specs.declared.Looked.the-variants.{Held, Absent}
-use Rattle.lists.proofs.Changes.{changes, changes-same, Counted, counted-on, counted-most, NeverRising, changes-count}
-use Rattle.table_descend.proofs.Descent.{root-subtree, zero-subtree, side, root-in-tree, path-begins, path-here, path-on, side-smaller, member-on, side-again, next-is-side}
+use Rattle.table_descend.proofs.Links.{next-is-side}
+use Rattle.table_descend.proofs.Earlier.{none-earlier, last-earlier, met-before}
 
--- The subtree in which the search goes on from a key; none from zero, no key.
+-- The subtree in which the search goes on from a key.
 abbrev pub rest : Contents → ℕ → Tree
 rest c at = subtree at (treap priorityOf (c .keys))
 
--- The levels of the blocks that hold the keys still to be compared.
-abbrev pub levelsAhead : Contents → ℕ → ℕ → List ℕ
-levelsAhead c at key = map (blockLevel (c .order) priorityOf (c .keys)) (path key (rest c at))
+-- None of the earlier lookups met a block.
+abbrev unmet : Contents → ℕ → ℕ → Block → Bool
+unmet c last before b = not (some (λ k. meets (c .order) priorityOf (c .keys) k b) (earlier last before))
 
--- Before the key `at` is compared, with so many blocks met, the last of them of this level.
-pub record Searching (c : Contents) (key at level met : ℕ) : Type 0 where
-  -- `at` is the root of what is left
-  pub root : rootKey (rest c at) ≡ at
+-- Nor the block that holds a key.
+abbrev pub passes : Contents → ℕ → ℕ → ℕ → Bool
+passes c last before x = unmet c last before (blockOf (c .order) priorityOf (c .keys) x)
+
+-- The blocks still to be counted, on from a key of this level.
+abbrev pub ahead : Contents → ℕ → ℕ → ℕ → List ℕ → ℕ
+ahead c last before level xs = changes (blockLevel (c .order) priorityOf (c .keys)) (passes c last before) level xs
+
+-- Before the key `at`, of a block of this level, is compared with the one sought, with so many blocks counted.
+pub record Searching (c : Contents) (key last before at level low met : ℕ) : Type 0 where
+  pub held-here : member at (c .keys) ≡ true
+  pub level-is : level ≡ blockLevel (c .order) priorityOf (c .keys) at
   -- the key is held when it is in what is left
   pub held : member key (keys (rest c at)) ≡ member key (c .keys)
-  -- every change of level still to come meets one block more
-  pub blocks : met + changes level (levelsAhead c at key) ≡ blocksMet (c .order) priorityOf (c .keys) key
+  -- the searches for lesser keys that come by `at` are those for keys above `low`
+  pub along : (q : ℕ) → 1 ≤ q → q ≤ pred key → member at (path q (treap priorityOf (c .keys))) ≡ ltb low q
+  -- every block that is entered from here on and was not met before counts
+  pub counted : met + ahead c last before level (path key (rest c at)) ≡ newlyMet c (earlier last before) key
   -- no more blocks than keys
   pub few : met + size (rest c at) ≤ suc (length (c .keys))
 
 module _ (many : ℕ) (c : Contents) (valid : Valid many c) where
+  abbrev α : ℕ
+  α = c .order
+
   abbrev p : ℕ → ℕ
   p = priorityOf
 
@@ -68,8 +88,14 @@ module _ (many : ℕ) (c : Contents) (valid : Valid many c) where
   positive : All (λ k. 1 ≤ k) ks
   positive = all-map IsKey (λ k. 1 ≤ k) (λ k h. h .0) ks (valid .keys-right)
 
-  positive-in-tree : All (λ k. 1 ≤ k) (keys t)
-  positive-in-tree = subst (All (λ k. 1 ≤ k)) (sym (treap-keys p ks rising)) positive
+  pub key-positive : (k : ℕ) → member k ks ≡ true → k ≢ 0
+  key-positive k m e = let h = all-member (λ k. 1 ≤ k) ks k positive m in omega arith
+
+  -- a link of a key is a key, where it is not zero
+  pub link-held : (at : ℕ) → member at ks ≡ true → (q there : ℕ) → there ≡ nextKey ks at q → there ≢ 0 → member there ks ≡ true
+  link-held at m q there e d =
+      let here : there ≡ child p ks at q = e ∙ next-is-side ks at q (has-root α p wide ks rising positive at m) in
+      ap (λ (k : ℕ). member k ks) here ∙ child-key α p wide ks rising positive at m q (λ z. d (here ∙ z))
 
   -- ---- the start
   -- no root, no key, no block
@@ -80,15 +106,9 @@ module _ (many : ℕ) (c : Contents) (valid : Valid many c) where
       go [] h q = refl
       go (x ∷ xs) h q = absurd (omega (arith, q, all-member (λ k. 1 ≤ k) (x ∷ xs) (top p (x ∷ xs)) h (top-member p x xs)))
 
-  pub none-held : (key : ℕ) → top p ks ≡ 0 → Absent 0 ≡ lookedUp c key
-  unfolding lookedUp treap
-  none-held key e =
-      let empty = no-root e in
-      let none : blocksMet (c .order) p ks key ≡ 0 =
-      blocks-met-is (c .order) p wide ks rising key
-      ∙ ap (λ (xs : List ℕ). length (distinct (map (blockLevel (c .order) p ks) (path key (treap p xs))))) empty
-      in
-      rw (ap (member key) empty, none)
+  pub none-held : (key last before : ℕ) → top p ks ≡ 0 → Absent 0 ≡ lookedUpAfter c (earlier last before) key
+  unfolding lookedUpAfter newlyMet blocks
+  none-held key last before e = rw (no-root e) refl
 
   pub root-held : (root : ℕ) → root ≡ top p ks → root ≢ 0 → member root ks ≡ true
   unfolding top
@@ -98,102 +118,195 @@ module _ (many : ℕ) (c : Contents) (valid : Valid many c) where
       go [] q = absurd (d q)
       go (x ∷ xs) q = ap (λ (k : ℕ). member k (x ∷ xs)) q ∙ top-member p x xs
 
-  -- the root's block is the first met
-  first-block : (key level : ℕ) → rootKey t ≢ 0 → blockLevel (c .order) p ks (rootKey t) ≡ level
-      → 1 + changes level (map (blockLevel (c .order) p ks) (path key t)) ≡ blocksMet (c .order) p ks key
-  first-block key level d e =
-      let levelOf = blockLevel (c .order) p ks in
-      let (more, begins) = path-begins t key d in
-      let falls : NeverRising (levelOf (rootKey t) ∷ map levelOf more) =
-      subst (λ (xs : List ℕ). NeverRising (map levelOf xs)) begins
-      (pairwise-mapped (λ x y. y ≤ x) levelOf (path key t) (path-levels-fall (c .order) p wide ks rising key))
-      in
-      ap (λ (xs : List ℕ). 1 + changes level (map levelOf xs)) begins
-      ∙ ap (λ (n : ℕ). 1 + n) (changes-same level (levelOf (rootKey t)) (map levelOf more) e)
-      ∙ omega (arith, changes-count (levelOf (rootKey t)) (map levelOf more) falls)
-      ∙ ap (λ (xs : List ℕ). length (distinct (map levelOf xs))) (sym begins)
-      ∙ sym (blocks-met-is (c .order) p wide ks rising key)
+  module _ (key last before : ℕ) (first : before ≤ pred last) (second : last ≤ pred key) where
+    -- the root's block is new to the first lookup alone
+    root-passes : (root : ℕ) → root ≡ top p ks → member root ks ≡ true → cond (passes c last before root) 1 0 ≡ firstBlock last
+    unfolding firstBlock blockOf
+    root-passes root e m =
+        let level = level-of-root α p ks wide rising root e in
+        by-test (eqb last 0)
+        (λ z. let o = eqb-true last 0 z in rw z (ap (λ b. cond (not b) 1 0) (none-earlier (λ k. meets α p ks k (blockOf α p ks root)) last before o (omega arith))))
+        (λ z.
+        let o : last ≢ 0 = eqb-false last 0 z in
+        rw z
+        (ap (λ b. cond (not b) 1 0)
+        (last-earlier (λ k. meets α p ks k (blockOf α p ks root)) last before (omega arith)
+        (ap (λ b. meets α p ks last (cond b (rootBlock α p ks) (block α p ks (blockLevel α p ks root) (leader α p ks root)))) (eq-eqb (blockLevel α p ks root) (rootRank α p ks) level)
+        ∙ root-met α p wide ks rising positive last root m))))
 
-  pub starts : (key root level : ℕ) → root ≡ top p ks → root ≢ 0 → level ≡ rank (c .order) p ks root → Searching c key root level 1
-  unfolding rootRank
-  starts key root level e d l =
-      let at-top : root ≡ rootKey t = e ∙ top-is-root p ks rising root (root-held root e d) in
-      let whole : rest c root ≡ t = ap (λ (k : ℕ). subtree k t) at-top ∙ root-subtree t in
-      let its-level : blockLevel (c .order) p ks (rootKey t) ≡ level =
-      level-of-root (c .order) p ks wide rising (rootKey t) (sym at-top ∙ e) ∙ ap (rank (c .order) p ks) (sym e) ∙ sym l
-      in
-      record {
-        root = ap rootKey whole ∙ sym at-top;
-        held = ap (λ z. member key (keys z)) whole ∙ ap (member key) (treap-keys p ks rising);
-        blocks = ap (λ z. 1 + changes level (map (blockLevel (c .order) p ks) (path key z))) whole ∙ first-block key level (λ q. d (at-top ∙ q)) its-level;
-        few = omega (arith, ap size whole, length-keys t, ap length (treap-keys p ks rising));
-      }
+    pub starts : (root level : ℕ) → root ≡ top p ks → root ≢ 0 → level ≡ blockLevel α p ks root → Searching c key last before root level 0 (firstBlock last)
+    unfolding newlyMet firstBlock
+    starts root level e d l =
+        let m = root-held root e d in
+        let at-top : root ≡ rootKey t = e ∙ top-is-root p ks rising root m in
+        let whole : rest c root ≡ t = ap (λ (k : ℕ). subtree k t) at-top ∙ root-subtree t in
+        let some : rootKey t ≢ 0 = λ q. d (at-top ∙ q) in
+        record {
+          held-here = m;
+          level-is = l;
+          held = ap (λ z. member key (keys z)) whole ∙ ap (member key) (treap-keys p ks rising);
+          along = λ q h k. ap (member root) (path-begins t q some .1) ∙ or-true-left (eqb root (rootKey t)) _ (eq-eqb root (rootKey t) at-top) ∙ sym (lt-ltb 0 q h);
+          counted = begun (path-begins t key some);
+          few = omega (arith, at-most (eqb last 0), ap size whole, length-keys t, ap length (treap-keys p ks rising));
+        }
+      where
+        at-most : (b : Bool) → cond b 1 0 ≤ 1
+        at-most true = omega arith
+        at-most false = omega arith
 
-  -- ---- a key compared
-  module _ (key at level met : ℕ) (now : Searching c key at level met) (some : at ≢ 0) where
-    has-root : rootKey (rest c at) ≢ 0
-    has-root e = some (sym (now .root) ∙ e)
+        begun : (xs : List ℕ) × (path key t ≡ rootKey t ∷ xs) → firstBlock last + ahead c last before level (path key (rest c root)) ≡ newlyMet c (earlier last before) key
+        begun (xs, begins) =
+            let at-top : root ≡ rootKey t = e ∙ top-is-root p ks rising root (root-held root e d) in
+            let whole : rest c root ≡ t = ap (λ (k : ℕ). subtree k t) at-top ∙ root-subtree t in
+            let same : blockLevel α p ks (rootKey t) ≡ level = ap (blockLevel α p ks) (sym at-top) ∙ sym l in
+            ap (λ (z : Tree). firstBlock last + ahead c last before level (path key z)) whole
+            ∙ ap (λ (ys : List ℕ). firstBlock last + ahead c last before level ys) begins
+            ∙ ap (λ (n : ℕ). firstBlock last + n) (changes-same (blockLevel α p ks) (passes c last before) level (rootKey t) xs same)
+            ∙ ap (λ (n : ℕ). n + ahead c last before (blockLevel α p ks (rootKey t)) xs)
+            (sym (root-passes (rootKey t) (sym at-top ∙ e) (ap (λ (k : ℕ). member k ks) (sym at-top) ∙ root-held root e d)))
+            ∙ sym (new-blocks-change α p wide ks rising (unmet c last before) key (rootKey t) xs begins)
 
-    pub at-held : member at ks ≡ true
-    at-held =
-        ap (member at) (sym (treap-keys p ks rising))
-        ∙ inside t at at (subst (λ (k : ℕ). member k (keys (rest c at)) ≡ true) (now .root) (root-in-tree (rest c at) has-root))
+    -- ---- a key compared
+    module _ (at level low met : ℕ) (now : Searching c key last before at level low met) where
+      abbrev here : member at ks ≡ true
+      here = now .held-here
 
-    -- one more block can be met
-    pub room : met < suc (length ks)
-    room = omega (arith, now .few, side-smaller (rest c at) key has-root)
+      root-is : rootKey (rest c at) ≡ at
+      root-is = has-root α p wide ks rising positive at here
 
-    module _ (here more : ℕ) (its : here ≡ blockLevel (c .order) p ks at) (counted : Counted level here met more) where
-      -- the blocks met and those ahead, once the key is counted
-      counted-here : (xs : List ℕ) → path key (rest c at) ≡ rootKey (rest c at) ∷ xs
-          → more + changes here (map (blockLevel (c .order) p ks) xs) ≡ blocksMet (c .order) p ks key
-      counted-here xs e =
-          let levelOf = blockLevel (c .order) p ks in
-          counted-on level here met more (map levelOf xs) counted
-          ∙ ap (λ (n : ℕ). met + changes level (n ∷ map levelOf xs)) (its ∙ ap levelOf (sym (now .root)))
-          ∙ ap (λ (ys : List ℕ). met + changes level (map levelOf ys)) (sym e)
-          ∙ now .blocks
+      some-left : rootKey (rest c at) ≢ 0
+      some-left = some-root α p wide ks rising positive at here
 
-      pub found : at ≡ key → Held (standingOf c at) more ≡ lookedUp c key
-      unfolding lookedUp
+      -- one more block can be met
+      pub room : met < suc (length ks)
+      room = omega (arith, now .few, side-smaller (rest c at) key some-left)
+
+      -- the key `at` itself is counted already
+      passed : (xs : List ℕ) → path key (rest c at) ≡ rootKey (rest c at) ∷ xs → met + ahead c last before level xs ≡ newlyMet c (earlier last before) key
+      passed xs e =
+          let same : blockLevel α p ks (rootKey (rest c at)) ≡ level = ap (blockLevel α p ks) root-is ∙ sym (now .level-is) in
+          ap (λ (n : ℕ). met + ahead c last before n xs) (sym same)
+          ∙ ap (λ (n : ℕ). met + n) (sym (changes-same (blockLevel α p ks) (passes c last before) level (rootKey (rest c at)) xs same))
+          ∙ ap (λ (ys : List ℕ). met + ahead c last before level ys) (sym e)
+          ∙ now .counted
+
+      pub found : at ≡ key → Held (standingOf c at) met ≡ lookedUpAfter c (earlier last before) key
+      unfolding lookedUpAfter
       found e =
-          let all : more ≡ blocksMet (c .order) p ks key =
-          omega (arith, counted-here [] (path-here (rest c at) key has-root (sym e ∙ sym (now .root))))
-          in
-          rw (ap (λ (k : ℕ). member k ks) (sym e) ∙ at-held, e, all)
+          let all : met ≡ newlyMet c (earlier last before) key = omega (arith, passed [] (path-here (rest c at) key some-left (sym e ∙ sym root-is))) in
+          rw (ap (λ (k : ℕ). member k ks) (sym e) ∙ here, e, all)
 
-      module _ (other : at ≢ key) (next : ℕ) (link : next ≡ nextKey ks at key) where
-        beyond : rest c next ≡ side key (rest c at)
-        beyond =
-            ap (λ (k : ℕ). subtree k t) (link ∙ next-is-side ks at key (now .root))
-            ∙ side-again p t (treap-good p ks rising) positive-in-tree at key
-
+      module _ (other : at ≢ key) where
         not-root : key ≢ rootKey (rest c at)
-        not-root e = other (sym (now .root) ∙ sym e)
+        not-root e = other (sym root-is ∙ sym e)
 
-        pub smaller : size (rest c next) < size (rest c at)
-        smaller = rw beyond (side-smaller (rest c at) key has-root)
+        on : path key (rest c at) ≡ rootKey (rest c at) ∷ path key (side key (rest c at))
+        on = path-on (rest c at) key some-left not-root
 
-        pub goes-on : Searching c key next here more
-        goes-on =
-            record {
-              root = ap rootKey beyond ∙ sym (link ∙ next-is-side ks at key (now .root));
-              held =
-                  ap (λ z. member key (keys z)) beyond
-                  ∙ member-on p (rest c at) key (good-subtree p at t (treap-good p ks rising)) has-root not-root
-                  ∙ now .held;
-              blocks =
-                  ap (λ z. more + changes here (map (blockLevel (c .order) p ks) (path key z))) beyond
-                  ∙ counted-here (path key (side key (rest c at))) (path-on (rest c at) key has-root not-root);
-              few = omega (arith, smaller, now .few, counted-most level here met more counted);
-            }
+        held-on : member key (keys (side key (rest c at))) ≡ member key ks
+        held-on = member-on p (rest c at) key (good-subtree p at t (treap-good p ks rising)) some-left not-root ∙ now .held
 
-  -- ---- no key left
-  pub absent : (key at level met : ℕ) → Searching c key at level met → at ≡ 0 → Absent met ≡ lookedUp c key
-  unfolding lookedUp
-  absent key at level met now e =
-      let none : rest c at ≡ leaf = ap (λ (k : ℕ). subtree k t) e ∙ zero-subtree t positive-in-tree in
-      let all : met ≡ blocksMet (c .order) p ks key =
-      omega arith ∙ ap (λ z. met + changes level (map (blockLevel (c .order) p ks) (path key z))) (sym none) ∙ now .blocks
-      in
-      rw (sym (now .held) ∙ ap (λ z. member key (keys z)) none, all)
+        link-is : (q : ℕ) → nextKey ks at q ≡ child p ks at q
+        link-is q = next-is-side ks at q root-is
+
+        -- no key left
+        pub ends : nextKey ks at key ≡ 0 → Absent met ≡ lookedUpAfter c (earlier last before) key
+        unfolding lookedUpAfter
+        ends e =
+            let none : side key (rest c at) ≡ leaf =
+            sym (side-is α p wide ks rising positive at here key)
+            ∙ ap (λ (k : ℕ). subtree k t) (sym (link-is key) ∙ e)
+            ∙ zero-subtree t (positive-in-tree α p wide ks rising positive)
+            in
+            let all : met ≡ newlyMet c (earlier last before) key = omega (arith, passed [] (on ∙ ap (λ (z : Tree). rootKey (rest c at) ∷ path key z) none)) in
+            rw (sym held-on ∙ ap (λ (z : Tree). member key (keys z)) none, all)
+
+        -- ---- the key that is compared next
+        module _ (next : ℕ) (link : next ≡ nextKey ks at key) (more-to : next ≢ 0) where
+          is-child : next ≡ child p ks at key
+          is-child = link ∙ link-is key
+
+          some-child : child p ks at key ≢ 0
+          some-child e = more-to (is-child ∙ e)
+
+          pub next-held : member next ks ≡ true
+          next-held = link-held at here key next link more-to
+
+          beyond : rest c next ≡ side key (rest c at)
+          beyond = ap (λ (k : ℕ). subtree k t) is-child ∙ side-is α p wide ks rising positive at here key
+
+          pub smaller : size (rest c next) < size (rest c at)
+          smaller = rw beyond (side-smaller (rest c at) key some-left)
+
+          -- the searches that come by it
+          along-on : (q : ℕ) → 1 ≤ q → q ≤ pred key → member next (path q t) ≡ ltb (lowAfter low at key) q
+          unfolding lowAfter
+          along-on q h k =
+              let by : member next (path q t) ≡ member (child p ks at key) (path q t) = ap (λ (x : ℕ). member x (path q t)) is-child in
+              by-test (ltb at key)
+              (λ f.
+              let less : at < key = ltb-true at key f in
+              let under : low < at = ltb-true low at (sym (now .along at (all-member (λ x. 1 ≤ x) ks at positive here) (omega arith)) ∙ own-path α p wide ks rising positive at here) in
+              rw f
+              (by
+              ∙ same-test (member (child p ks at key) (path q t)) (ltb at q)
+              (λ e.
+              let (_, d, s) = comes-by α p wide ks rising positive at here key some-child q e in
+              let high = ltb-false q at (s ∙ le-ltb key at (omega arith)) in
+              lt-ltb at q (omega (arith, d)))
+              (λ e.
+              let high = ltb-true at q e in
+              goes-by α p wide ks rising positive at here key some-child q (now .along q h k ∙ lt-ltb low q (omega arith)) (λ z. omega arith)
+              (le-ltb q at (omega arith) ∙ sym (le-ltb key at (omega arith))))))
+              (λ f.
+              let high : key < at = let z = ltb-false at key f in omega (arith, other) in
+              rw f
+              (by
+              ∙ same-test (member (child p ks at key) (path q t)) (ltb low q)
+              (λ e. sym (now .along q h k) ∙ comes-by α p wide ks rising positive at here key some-child q e .0)
+              (λ e.
+              goes-by α p wide ks rising positive at here key some-child q (now .along q h k ∙ e) (λ z. omega arith)
+              (lt-ltb q at (omega arith) ∙ sym (lt-ltb key at high)))))
+
+          module _ (below : ℕ) (its : below ≡ blockLevel α p ks next) where
+            pub onto : ofLevel α p ks below next ≡ true
+            unfolding ofLevel
+            onto = and-both (nonzero next) (eqb (blockLevel α p ks next) below) (nonzero-when next (omega arith)) (eq-eqb (blockLevel α p ks next) below (sym its))
+
+            -- it is in a block that counts where the code says so
+            decides : newBlock c at low (otherThan at last before) level below ≡ new (blockLevel α p ks) (passes c last before) level next
+            unfolding newBlock
+            decides =
+                by-test (eqb below level)
+                (λ e. rw (e, sym its, e) refl)
+                (λ e.
+                rw (e, sym its, e)
+                (ap not
+                (ap (λ (x : ℕ). ltb low (otherThan at last before) && ofLevel α p ks below x) (link-is (otherThan at last before))
+                ∙ sym
+                (met-before α p wide ks rising positive at here below key last before low (ap (ofLevel α p ks below) (sym is-child) ∙ onto) first second (now .along) some-child (its ∙ ap (blockLevel α p ks) is-child)
+                (λ z. eqb-false below level e (z ∙ sym (now .level-is))))
+                ∙ ap (λ (x : ℕ). some (λ k. meets α p ks k (blockOf α p ks x)) (earlier last before)) (sym is-child))))
+
+            pub goes-on : (more : ℕ) → Counted (newBlock c at low (otherThan at last before) level below) met more
+                → Searching c key last before next below (lowAfter low at key) more
+            goes-on more count =
+                record {
+                  held-here = next-held;
+                  level-is = its;
+                  held = ap (λ (z : Tree). member key (keys z)) beyond ∙ held-on;
+                  along = along-on;
+                  counted = counted-next more (subst (λ b. Counted b met more) decides count) (path-begins (side key (rest c at)) key some-child);
+                  few = omega (arith, smaller, now .few, counted-most (newBlock c at low (otherThan at last before) level below) met more count);
+                }
+              where
+                counted-next : (more : ℕ) → Counted (new (blockLevel α p ks) (passes c last before) level next) met more → (zs : List ℕ) × (path key (side key (rest c at)) ≡ child p ks at key ∷ zs)
+                    → more + ahead c last before below (path key (rest c next)) ≡ newlyMet c (earlier last before) key
+                counted-next more count (zs, begins) =
+                    let way : path key (side key (rest c at)) ≡ next ∷ zs = begins ∙ ap (λ (x : ℕ). x ∷ zs) (sym is-child) in
+                    ap (λ (z : Tree). more + ahead c last before below (path key z)) beyond
+                    ∙ ap (λ (ys : List ℕ). more + ahead c last before below ys) way
+                    ∙ ap (λ (n : ℕ). more + n) (changes-same (blockLevel α p ks) (passes c last before) below next zs (sym its))
+                    ∙ counted-on (blockLevel α p ks) (passes c last before) level next met more zs count
+                    ∙ ap (λ (ys : List ℕ). met + ahead c last before level ys) (sym way)
+                    ∙ passed (path key (side key (rest c at))) on

@@ -1,10 +1,12 @@
 -- What a lookup finds, from what the table holds. Assumes nothing.
-use mathlib.Core.Bool.{cond}
+use mathlib.Core.Bool.{cond, not, _&&_}
+use mathlib.Core.List.{List, [], _∷_}
 use Prim.Native.Nat.{ℕ}
-use Rattle.lists.specs.Lists.{member}
+use lib.ListN.{length}
+use Rattle.lists.specs.Lists.{nonzero, keep, some, member}
 use Rattle.priority.specs.Priority.{priorityOf}
 use Rattle.treap.specs.Levels.{rank, count, leader}
-use Rattle.treap.specs.Blocks.{blocksMet}
+use Rattle.treap.specs.Blocks.{meets, blocksMet, blocks}
 use Rattle.table.specs.Contents.{Contents}
 use Rattle.table_descend.specs.declared.Standing.{Standing}
 use Rattle.table_descend.specs.declared.Looked.{Looked}
@@ -26,3 +28,22 @@ lookedUp c key =
     cond (member key (c .keys))
     (Held (standingOf c key) (blocksMet (c .order) priorityOf (c .keys) key))
     (Absent (blocksMet (c .order) priorityOf (c .keys) key))
+
+-- ---- lookups one after the other, for rising keys
+-- The keys of the last lookup and of the one before it, where there are such: zero is no key.
+unfoldable pub earlier : ℕ → ℕ → List ℕ
+earlier last before = keep nonzero (last ∷ before ∷ [])
+
+-- The number of blocks that a search for `key` meets and none for these keys does.
+unfoldable pub newlyMet : Contents → List ℕ → ℕ → ℕ
+newlyMet c keys key =
+    length
+    (keep (λ b. meets (c .order) priorityOf (c .keys) key b && not (some (λ k. meets (c .order) priorityOf (c .keys) k b) keys))
+    (blocks (c .order) priorityOf (c .keys)))
+
+-- What a lookup finds after those of these keys, with the blocks that they did not meet.
+unfoldable pub lookedUpAfter : Contents → List ℕ → ℕ → Looked
+lookedUpAfter c keys key =
+    cond (member key (c .keys))
+    (Held (standingOf c key) (newlyMet c keys key))
+    (Absent (newlyMet c keys key))

@@ -1,13 +1,16 @@
 // The way down the treap of a sound table to a key.
 ghost use mathlib.Core.Bool.{true};
 ghost use mathlib.Core.Path.{_≡_};
-ghost use Prim.Native.Nat.{_<_, _≤_};
+ghost use Prim.Native.Nat.{pred, _<_, _≤_};
 ghost use lib.ListN.{length};
-ghost use Rattle.priority.specs.Priority.{HoldsConstants};
+ghost use Rattle.lists.specs.Lists.{member};
+ghost use Rattle.priority.specs.Priority.{HoldsConstants, priorityOf};
+ghost use Rattle.treap_structure.proofs.Entrances.{ofLevel};
 ghost use Rattle.table.specs.Layout.{mostSlots, tableWords};
 ghost use Rattle.table.specs.Table.{contentsOf};
 ghost use Rattle.table.specs.Sound.{soundWith};
-ghost use Rattle.table_descend.specs.Lookup.{standingOf, lookedUp};
+ghost use Rattle.table_descend.specs.Lookup.{standingOf, lookedUp, earlier, lookedUpAfter};
+ghost use Rattle.table_descend.specs.Entering.{firstBlock, otherThan, lowAfter, newBlock};
 ghost use Rattle.table_entries.specs.Steps.{InSlot};
 use priority::CONSTANT_COUNT;
 use table::COUNT_FIELD;
@@ -40,32 +43,123 @@ fn standing_of(table: &[u64], many: usize, slot: usize, key: u64) -> Standing
     }
 }
 
-// The way down the table's treap from its root to `key`, or to where `key` would hang. A new block is met whenever the
-// level changes; a table without keys has none. The constants of the priorities are lent.
-fn descend(table: &[u64], many: usize, key: u64, constants: &[u64; CONSTANT_COUNT]) -> Looked
+// The block that holds the root, counted for the first lookup alone.
+fn first_block(last: u64) -> usize
+    ensures { λ r. ⌜ r ≡ firstBlock last ⌝ }
+{
+    if last == 0 {
+        return 1;
+    }
+    0
+}
+
+// Of the last lookup's key and the one before it, the last that is not `at`.
+fn other_than(at: u64, last: u64, before: u64) -> u64
+    ensures { λ r. ⌜ r ≡ otherThan at last before ⌝ }
+{
+    if last == at {
+        return before;
+    }
+    last
+}
+
+// The last key at which the way down went right, once it goes on from `at`.
+fn low_after(low: u64, at: u64, key: u64) -> u64
+    ensures { λ r. ⌜ r ≡ lowAfter low at key ⌝ }
+{
+    if at < key {
+        return at;
+    }
+    low
+}
+
+// Whether the way down that goes on from `at`, in `slot`, to `next` enters a block that the search for an earlier key, `other`, did not.
+// The levels are those of the blocks that hold `at` and `next`.
+fn is_new_block(
+    table: &[u64],
+    many: usize,
+    slot: usize,
+    at: u64,
+    low: u64,
+    other: u64,
+    next: u64,
+    level: u64,
+    below: u64,
+    constants: &[u64; CONSTANT_COUNT],
+) -> bool
+    requires { ⌜ (0 < many) × InSlot many (now table) at slot × (member at (contentsOf many (now table) .keys) ≡ true) × HoldsConstants (now constants) ⌝ }
+    requires { ⌜ ofLevel (contentsOf many (now table) .order) priorityOf (contentsOf many (now table) .keys) below next ≡ true ⌝ }
+    ensures { λ r. ⌜ r ≡ newBlock (contentsOf many (now (table .entry))) at low other level below ⌝ }
+{
+    if below == level {
+        return false;
+    }
+    if other <= low {
+        return true;
+    }
+    let there = table_entries::next_of(table, many, slot, at, other);
+    if there == next {
+        return false;
+    }
+    if there == 0 {
+        return true;
+    }
+    let its_slot = table_entries::slot_of(table, many, there, constants);
+    table_entries::level_of(table, many, its_slot, there) != below
+}
+
+// The way down the table's treap from its root to `key`, or to where `key` would hang, after lookups of lesser keys, of which `last` and,
+// before it, `before` are the last two, zero for none. The blocks are those that none of them met; a table without keys has none. The
+// constants of the priorities are lent. Internal to this library's crates: their tables are judged before, and their keys rise.
+pub fn look_up_after(
+    table: &[u64],
+    many: usize,
+    key: u64,
+    last: u64,
+    before: u64,
+    constants: &[u64; CONSTANT_COUNT],
+) -> Looked
     requires { ⌜ (0 < many) × (many ≤ mostSlots) × (length (now table) ≡ tableWords many) × (soundWith many (now table) ≡ true) × HoldsConstants (now constants) ⌝ }
-    ensures { λ r. ⌜ r ≡ lookedUp (contentsOf many (now (table .entry))) key ⌝ }
+    requires { ⌜ (before ≤ pred last) × (last ≤ pred key) ⌝ }
+    ensures { λ r. ⌜ r ≡ lookedUpAfter (contentsOf many (now (table .entry))) (earlier last before) key ⌝ }
 {
     let root = table[ROOT_WORD];
     if root == 0 {
         return Looked::Absent(0);
     }
     let mut at = root;
-    let mut level = table_entries::rank_in(table, many, root, constants);
-    let mut met = 1;
-    while at != 0 {
-        let slot = table_entries::slot_of(table, many, at, constants);
-        let here = table_entries::level_of(table, many, slot, at);
-        if here != level {
+    let mut slot = table_entries::slot_of(table, many, root, constants);
+    let mut level = table_entries::level_of(table, many, slot, root);
+    let mut low = 0;
+    let mut met = first_block(last);
+    while at != key {
+        let next = table_entries::next_of(table, many, slot, at, key);
+        if next == 0 {
+            return Looked::Absent(met);
+        }
+        let its_slot = table_entries::slot_of(table, many, next, constants);
+        let below = table_entries::level_of(table, many, its_slot, next);
+        let other = other_than(at, last, before);
+        if is_new_block(
+            table,
+            many,
+            slot,
+            at,
+            low,
+            other,
+            next,
+            level,
+            below,
+            constants,
+        ) {
             met += 1;
         }
-        if at == key {
-            return Looked::Held(standing_of(table, many, slot, at), met);
-        }
-        level = here;
-        at = table_entries::next_of(table, many, slot, at, key);
+        low = low_after(low, at, key);
+        at = next;
+        slot = its_slot;
+        level = below;
     }
-    Looked::Absent(met)
+    Looked::Held(standing_of(table, many, slot, at), met)
 }
 
 // The way down the table's treap to `key`.
@@ -75,5 +169,5 @@ pub fn look_up(table: &[u64], many: usize, key: u64) -> Looked
     ensures { λ r. ⌜ r ≡ lookedUp (contentsOf many (now (table .entry))) key ⌝ }
 {
     let constants = priority::constant_table();
-    descend(table, many, key, &constants)
+    look_up_after(table, many, key, 0, 0, &constants)
 }

@@ -55,8 +55,8 @@ pub fn slot_of(table: &[u64], many: usize, key: u64, constants: &[u64; CONSTANT_
     slot
 }
 
-// The rank of a key that the table holds; the constants of the priorities are lent. Internal to this library's crates.
-pub fn rank_in(table: &[u64], many: usize, key: u64, constants: &[u64; CONSTANT_COUNT]) -> u64
+// The rank of a key that the table holds; the constants of the priorities are lent.
+fn rank_in(table: &[u64], many: usize, key: u64, constants: &[u64; CONSTANT_COUNT]) -> u64
     requires { ⌜ (0 < many) × (many ≤ mostSlots) × (length (now table) ≡ tableWords many) × (soundWith many (now table) ≡ true) × (member key (contentsOf many (now table) .keys) ≡ true) × HoldsConstants (now constants) ⌝ }
     ensures { λ r. ⌜ r ≡ rank (contentsOf many (now (table .entry)) .order) priorityOf (contentsOf many (now (table .entry)) .keys) key ⌝ }
 {

@@ -1,7 +1,7 @@
 -- Blocks (document 01, "Blocks"), over any order `α`, priority function `p` and rising keys `ks`. Assumes nothing.
-use mathlib.Core.Bool.{Bool, true, false, cond, _||_, _&&_, not}
+use mathlib.Core.Bool.{Bool, cond, _||_, _&&_}
 use mathlib.Core.List.{List, [], _∷_, map, flatMap}
-use Prim.Native.Nat.{ℕ, zero, suc, pred, _*_, _-_, _/_}
+use Prim.Native.Nat.{ℕ, suc, pred, _*_, _-_, _/_}
 use lib.Dec.{eqb, ltb}
 use lib.ListN.{length}
 use Rattle.lists.specs.Lists.{keep, some, member, fallingFrom}
@@ -47,9 +47,18 @@ module _ (α : ℕ) (p : ℕ → ℕ) (ks : List ℕ) where
   unfoldable pub parents : Block → List Block
   parents b = cond (isRootBlock b) [] (holding (b .leaderKey))
 
+  -- A search for `v` meets a block when the block holds some key that it compares on its way down.
+  unfoldable pub meets : ℕ → Block → Bool
+  meets v b = some (λ x. member x (b .held)) (path v (treap p ks))
+
   -- Lookup's "number of different blocks that hold the keys it compares on its way down".
   unfoldable pub blocksMet : ℕ → ℕ
-  blocksMet v = length (keep (λ b. some (λ x. member x (b .held)) (path v (treap p ks))) blocks)
+  blocksMet v = length (keep (meets v) blocks)
+
+  -- "The number of different blocks over all the search paths, each block reckoned once" (02, N2): the blocks that hold some key on the
+  -- search path of some of these.
+  unfoldable pub blocksMetByAll : List ℕ → ℕ
+  blocksMetByAll vs = length (keep (λ b. some (λ v. meets v b) vs) blocks)
 
 -- "Fill is 100·n / (b·(2α−1)) rounded down, for n keys in b blocks; 0 when empty."
 unfoldable pub fill : ℕ → ℕ → ℕ → ℕ

@@ -1,13 +1,13 @@
 -- Document 01's examples A to H as one table: what is given of each, and what the definitions must make of it.
 -- The order is 3 throughout. Assumes nothing.
-use mathlib.Core.Bool.{Bool, true, false, cond, not}
+use mathlib.Core.Bool.{cond, not}
 use mathlib.Core.List.{List, [], _∷_, _++_, map}
-use Prim.Native.Nat.{ℕ, zero, suc}
+use Prim.Native.Nat.{ℕ, suc}
 use lib.Dec.{eqb}
 use lib.ListN.{length, take}
 use Rattle.lists.specs.Lists.{keep, member}
 use Rattle.treap.specs.Levels.{rank, count, leader}
-use Rattle.treap.specs.Blocks.{Block, blocks, parents, fill, blocksMet}
+use Rattle.treap.specs.Blocks.{Block, blocks, parents, fill, blocksMet, blocksMetByAll}
 use Rattle.treap.specs.Slots.{slotsOf}
 use Rattle.treap.specs.Image.{image}
 
@@ -33,8 +33,8 @@ pub record Name : Type 0 where
   pub level : ℕ
 
 -- What the definitions make of it: a number for each key, rising; the blocks in image order; for each block the names
--- of its parents; the fill; the number of blocks met by each lookup; the slots, and the slots after the deletions; the
--- image's bytes, as many as are written.
+-- of its parents; the fill; the number of blocks met by each lookup, and by all of them; the slots, and the slots after the
+-- deletions; the image's bytes, as many as are written.
 pub record Outcome : Type 0 where
   pub ranks : List ℕ
   pub counts : List ℕ
@@ -43,6 +43,7 @@ pub record Outcome : Type 0 where
   pub parents : List (List Name)
   pub fill : ℕ
   pub met : List ℕ
+  pub metByAll : ℕ
   pub before : List ℕ
   pub after : List ℕ
   pub image : List ℕ
@@ -77,6 +78,7 @@ outcomeOf g =
       parents = map (λ b. map nameOf (parents 3 p ks b)) (blocks 3 p ks);
       fill = fill 3 (length ks) (length (blocks 3 p ks));
       met = map (blocksMet 3 p ks) (g .sought);
+      metByAll = blocksMetByAll 3 p ks (g .sought);
       before = slotsOf p (λ k. g .home) (g .slots) ks;
       after = slotsAfter p g;
       image = take (g .bytes) (image 3 p ks);
@@ -87,7 +89,7 @@ abbrev shape : List ℕ → List ℕ → Given
 shape ks ranked = record { keys = ks; ranked = ranked; sought = []; slots = 0; home = 0; deleted = []; bytes = 0 }
 
 abbrev shaped : List ℕ → List ℕ → List ℕ → List Block → List (List Name) → ℕ → Outcome
-shaped rs cs ls bs ps full = record { ranks = rs; counts = cs; leaders = ls; blocks = bs; parents = ps; fill = full; met = []; before = []; after = []; image = [] }
+shaped rs cs ls bs ps full = record { ranks = rs; counts = cs; leaders = ls; blocks = bs; parents = ps; fill = full; met = []; metByAll = 0; before = []; after = []; image = [] }
 
 abbrev named : ℕ → ℕ → Name
 named v i = record { leaderKey = v; level = i }
@@ -118,6 +120,7 @@ withImage bytes o =
       parents = o .parents;
       fill = o .fill;
       met = o .met;
+      metByAll = o .metByAll;
       before = o .before;
       after = o .after;
       image = bytes;
@@ -177,7 +180,7 @@ chain =
     }
 
 -- E. 2 first, then 3, 4, 5, 6, 7, then 1: ranks of 1 to 7 are 0, 3, 2, 1, 1, 0, 0; blocks (2, 3): 2, 3; (3, 2): 4, 5; (2, 1): 1;
--- (5, 1): 6, 7. No block (2, 2). Lookup of 7 or 8 meets three blocks, of 1 two.
+-- (5, 1): 6, 7. No block (2, 2). Lookup of 7 or 8 meets three blocks, of 1 two; all together meet four.
 abbrev deep : Example
 deep =
     record {
@@ -200,6 +203,7 @@ deep =
             parents = [] ∷ (named 2 3 ∷ []) ∷ (named 2 3 ∷ []) ∷ (named 3 2 ∷ []) ∷ [];
             fill = 35;
             met = 3 ∷ 3 ∷ 2 ∷ [];
+            metByAll = 4;
             before = [];
             after = [];
             image = [];
@@ -242,6 +246,7 @@ wrapped =
             parents = [] ∷ [];
             fill = 40;
             met = [];
+            metByAll = 0;
             before = 2 ∷ 0 ∷ 1 ∷ [];
             after = 0 ∷ 0 ∷ 2 ∷ [];
             image = [];

@@ -15,5 +15,11 @@ pub mod Blocks
 pub mod BlockSizes
 pub mod BlockTree
 pub mod SearchPath
+pub mod Descent
+pub mod PathsThrough
+pub mod Children
+pub mod Entrances
+pub mod MetBetween
+pub mod NewBlocks
 pub mod Relabel
 pub mod Bounds

@@ -1,9 +1,9 @@
 -- Search paths and subtrees: what lies below a key is found through it. Assumes nothing.
-use mathlib.Core.Bool.{Bool, true, false, cond, _||_, _&&_}
+use mathlib.Core.Bool.{true, false, cond}
 use mathlib.Core.List.{List, [], _∷_, _++_}
-use mathlib.Core.Logic.{_⊎_, _≢_, inl, inr, ⊎-elim}
+use mathlib.Core.Logic.{_≢_}
 use mathlib.Core.Path.{_≡_, refl, sym, ap, ap₂, _∙_, subst}
-use Prim.Native.Nat.{ℕ, zero, suc, _+_, _<_, _≤_}
+use Prim.Native.Nat.{ℕ, _+_, _<_}
 use native.Mathlib.Omega.{arith}
 use lib.Dec.{eqb, ltb}
 use borrow.Author.Tests.{lt-ltb, le-ltb, ne-eqb}
@@ -11,12 +11,12 @@ use Rattle.lists.specs.Lists.{member, All, Pairwise}
 use Rattle.lists.proofs.Tests.{Compared, compared, by-test, true-or-false, or-true-left, or-true-right}
 use Rattle.lists.proofs.Tests.Compared.{less, same, more}
 use Rattle.lists.proofs.Keep.{all-map}
-use Rattle.lists.proofs.Membership.{eqb-same, all-member, all-of-members, member-append}
+use Rattle.lists.proofs.Membership.{eqb-same, all-member, member-append}
 use Rattle.lists.proofs.Pairwise.{pairwise-map}
 use Rattle.treap.specs.Treap.{Tree, keys, rootKey, subtree, path}
 use Rattle.treap.specs.Treap.Tree.{leaf, node}
-use Rattle.treap_structure.proofs.Shape.{size, keys-root, Good, lesser-below, greater-above}
-use Rattle.treap_structure.proofs.Subtrees.{subtree-root, subtree-left, subtree-right, path-root, path-left, path-right, subtree-cases, all-subtree}
+use Rattle.treap_structure.proofs.Shape.{keys-root, Good, lesser-below, greater-above}
+use Rattle.treap_structure.proofs.Subtrees.{subtree-root, subtree-left, subtree-right, path-left, path-right, all-subtree}
 
 -- The ancestors of u, itself left out.
 abbrev pub above : ℕ → Tree → List ℕ
@@ -26,13 +26,13 @@ above u (node l k r) =
     let inRight = above u r in
     cond (eqb u k) [] (k ∷ cond (ltb u k) inLeft inRight)
 
-above-root : (l : Tree) (k : ℕ) (r : Tree) → above k (node l k r) ≡ []
+pub above-root : (l : Tree) (k : ℕ) (r : Tree) → above k (node l k r) ≡ []
 above-root l k r = rw (eqb-same k)
 
-above-left : (u : ℕ) (l : Tree) (k : ℕ) (r : Tree) → u < k → above u (node l k r) ≡ k ∷ above u l
+pub above-left : (u : ℕ) (l : Tree) (k : ℕ) (r : Tree) → u < k → above u (node l k r) ≡ k ∷ above u l
 above-left u l k r h = rw (ne-eqb u k (λ e. omega arith), lt-ltb u k h)
 
-above-right : (u : ℕ) (l : Tree) (k : ℕ) (r : Tree) → k < u → above u (node l k r) ≡ k ∷ above u r
+pub above-right : (u : ℕ) (l : Tree) (k : ℕ) (r : Tree) → k < u → above u (node l k r) ≡ k ∷ above u r
 above-right u l k r h = rw (ne-eqb u k (λ e. omega arith), le-ltb u k (omega arith))
 
 -- ---- a tree's sides
@@ -56,10 +56,10 @@ path-in-tree v (node l k r) = (
 )
 
 module _ (p : ℕ → ℕ) where
-  keys-below : (l : Tree) (k : ℕ) (r : Tree) → Good p (node l k r) → (u v : ℕ) → member v (keys (subtree u l)) ≡ true → v < k
+  pub keys-below : (l : Tree) (k : ℕ) (r : Tree) → Good p (node l k r) → (u v : ℕ) → member v (keys (subtree u l)) ≡ true → v < k
   keys-below l k r g u v m = all-member (λ x. x < k) (keys (subtree u l)) v (all-subtree (λ x. x < k) u l (lesser-below p k (keys l) (g .0))) m
 
-  keys-above : (l : Tree) (k : ℕ) (r : Tree) → Good p (node l k r) → (u v : ℕ) → member v (keys (subtree u r)) ≡ true → k < v
+  pub keys-above : (l : Tree) (k : ℕ) (r : Tree) → Good p (node l k r) → (u v : ℕ) → member v (keys (subtree u r)) ≡ true → k < v
   keys-above l k r g u v m = all-member (λ x. k < x) (keys (subtree u r)) v (all-subtree (λ x. k < x) u r (greater-above p k (keys r) (g .1))) m
 
   -- the root lies in no subtree but its own

@@ -1,22 +1,22 @@
 -- Along a search path levels never rise and a block is never entered again, so that the blocks met are the different
 -- levels met. Assumes an order of at least 2 and rising keys.
-use mathlib.Core.Bool.{Bool, true, false, cond, _||_, _&&_, not}
+use mathlib.Core.Bool.{Bool, true, false}
 use mathlib.Core.List.{List, [], _∷_, _++_, map}
-use mathlib.Core.Logic.{_⊎_, _≢_, inl, inr, ⊎-elim}
+use mathlib.Core.Logic.{_⊎_, _≢_, ⊎-elim}
 use mathlib.Core.Path.{_≡_, refl, sym, ap, ap₂, _∙_, subst}
-use Prim.Native.Nat.{ℕ, zero, suc, _+_, _<_, _≤_}
+use Prim.Native.Nat.{ℕ, suc, _+_, _≤_}
 use native.Mathlib.Omega.{arith}
 use lib.Dec.{eqb}
 use lib.ListN.{length}
 use borrow.Author.Tests.{eqb-true, eqb-false}
 use Rattle.lists.specs.Lists.{keep, some, member, distinct, All, Pairwise, Rising}
 use Rattle.lists.proofs.Tests.{by-test, true-or-false, same-test, or-true-cases, or-true-right}
-use Rattle.lists.proofs.Keep.{all-map, all-both, all-append-left, kept-pass, keep-none, keep-same, keep-only, length-keep-apart, all-always}
+use Rattle.lists.proofs.Keep.{all-map, all-both, all-append-left, kept-pass, keep-none, keep-same, keep-only, length-keep-apart, all-always, all-for-each}
 use Rattle.lists.proofs.Membership.{all-member, some-when, some-says, member-map, mapped-from}
 use Rattle.lists.proofs.Pairwise.{pairwise-append-right, pairwise-before, pairwise-map}
-use Rattle.treap.specs.Treap.{Tree, keys, rootKey, subtree, path, top, treap}
-use Rattle.treap.specs.Levels.{rank, leader}
-use Rattle.treap.specs.Blocks.{Block, rootRank, rootBlock, block, blocks, holding, blocksMet}
+use Rattle.treap.specs.Treap.{keys, subtree, path, top, treap}
+use Rattle.treap.specs.Levels.{rank}
+use Rattle.treap.specs.Blocks.{Block, rootRank, block, blocks, holding, meets, blocksMet}
 use Rattle.treap_structure.proofs.Shape.{treap-good}
 use Rattle.treap_structure.proofs.Ranks.{rank-falls}
 use Rattle.treap_structure.proofs.Paths.{InSubtree, path-in-tree, path-nested, not-root-below}
@@ -52,7 +52,7 @@ module _ (α : ℕ) (p : ℕ → ℕ) (wide : 2 ≤ α) (ks : List ℕ) (rising 
         rw (q, ap (λ (j : ℕ). eqb j (rootRank α p ks)) (sym e) ∙ q) (ap₂ (block α p ks) e (same-rank-leader α p wide ks rising x y m n i ranks)))
 
   -- ---- a whole path
-  path-keys : (v : ℕ) → All (λ x. member x ks ≡ true) (path v (treap p ks))
+  pub path-keys : (v : ℕ) → All (λ x. member x ks ≡ true) (path v (treap p ks))
   path-keys v = all-map (λ x. member x (keys (treap p ks)) ≡ true) (λ x. member x ks ≡ true) (λ x j. treap-member α p wide ks rising x j) (path v (treap p ks)) (path-in-tree v (treap p ks))
 
   -- levels never rise
@@ -62,7 +62,7 @@ module _ (α : ℕ) (p : ℕ → ℕ) (wide : 2 ≤ α) (ks : List ℕ) (rising 
       (path-nested p (treap p ks) v (treap-good p ks rising))
 
   -- keys of one level are in one block
-  abbrev SameBlock : ℕ → ℕ → Type 0
+  abbrev pub SameBlock : ℕ → ℕ → Type 0
   SameBlock x y = blockLevel α p ks x ≡ blockLevel α p ks y → blockOf α p ks x ≡ blockOf α p ks y
 
   pub path-level-block : (v : ℕ) → Pairwise (λ x y. blockLevel α p ks x ≡ blockLevel α p ks y → blockOf α p ks x ≡ blockOf α p ks y) (path v (treap p ks))
@@ -91,11 +91,20 @@ module _ (α : ℕ) (p : ℕ → ℕ) (wide : 2 ≤ α) (ks : List ℕ) (rising 
   unfolding holding
   holder x m = keep-only (λ b. member x (b .held)) (blockOf α p ks x) (blocks α p ks) (holding-is α p ks wide rising x m)
 
+  -- the same of all keys of a list
+  abbrev pub Owned : List ℕ → Block → Type 0
+  Owned ys b = (y : ℕ) → member y ys ≡ true → member y (b .held) ≡ true → b ≡ blockOf α p ks y
+
+  pub owners : (ys : List ℕ) → All (λ y. member y ks ≡ true) ys → All (Owned ys) (blocks α p ks)
+  owners ys k =
+      all-for-each (λ y. member y ys ≡ true) (λ y b. member y (b .held) ≡ true → b ≡ blockOf α p ks y) (blocks α p ks)
+      (λ y i. holder y (all-member (λ z. member z ks ≡ true) ys y k i))
+
   held : (x : ℕ) → member x ks ≡ true → member x (blockOf α p ks x .held) ≡ true
   unfolding holding
   held x m = subst (All (λ b. member x (b .held) ≡ true)) (holding-is α p ks wide rising x m) (kept-pass (λ b. member x (b .held)) (blocks α p ks)) .0
 
-  holds-some : List ℕ → Block → Bool
+  unfoldable pub holds-some : List ℕ → Block → Bool
   holds-some xs b = some (λ x. member x (b .held)) xs
 
   -- a key whose level is met again adds no block
@@ -125,7 +134,7 @@ module _ (α : ℕ) (p : ℕ → ℕ) (wide : 2 ≤ α) (ks : List ℕ) (rising 
       ∙ ap (λ (bs : List Block). length bs + length (keep (holds-some xs) (blocks α p ks))) (holding-is α p ks wide rising x m)
       ∙ omega arith
     where
-      owner : (b : Block) → ((y : ℕ) → member y xs ≡ true → member y (b .held) ≡ true → b ≡ blockOf α p ks y) → (member x (b .held) ≡ true → b ≡ blockOf α p ks x)
+      owner : (b : Block) → Owned xs b → (member x (b .held) ≡ true → b ≡ blockOf α p ks x)
           → member x (b .held) ≡ true → holds-some xs b ≡ false
       owner b f g h =
           by-test (holds-some xs b)
@@ -137,21 +146,13 @@ module _ (α : ℕ) (p : ℕ → ℕ) (wide : 2 ≤ α) (ks : List ℕ) (rising 
           absurd (true-or-false (member (blockLevel α p ks x) (map (blockLevel α p ks) xs)) (ap (λ (n : ℕ). member n (map (blockLevel α p ks) xs)) levels ∙ member-map (blockLevel α p ks) xs y j) l))
           (λ t. t)
 
-      owners : (ys : List ℕ) → All (λ y. member y ks ≡ true) ys → All (λ b. (y : ℕ) → member y ys ≡ true → member y (b .held) ≡ true → b ≡ blockOf α p ks y) (blocks α p ks)
-      owners ys k = every-block (blocks α p ks) (λ y i. holder y (all-member (λ z. member z ks ≡ true) ys y k i))
-        where
-          every-block : (bs : List Block) → ((y : ℕ) → member y ys ≡ true → All (λ b. member y (b .held) ≡ true → b ≡ blockOf α p ks y) bs)
-              → All (λ b. (y : ℕ) → member y ys ≡ true → member y (b .held) ≡ true → b ≡ blockOf α p ks y) bs
-          every-block [] f = tt
-          every-block (b ∷ bs) f = ((λ y i. f y i .0), every-block bs (λ y i. f y i .1))
-
       apart : All (λ b. member x (b .held) ≡ true → holds-some xs b ≡ false) (blocks α p ks)
       apart =
-          all-map (λ b. ((y : ℕ) → member y xs ≡ true → member y (b .held) ≡ true → b ≡ blockOf α p ks y) × (member x (b .held) ≡ true → b ≡ blockOf α p ks x)) (λ b. member x (b .held) ≡ true → holds-some xs b ≡ false)
+          all-map (λ b. Owned xs b × (member x (b .held) ≡ true → b ≡ blockOf α p ks x)) (λ b. member x (b .held) ≡ true → holds-some xs b ≡ false)
           (λ b q. owner b (q .0) (q .1)) (blocks α p ks)
-          (all-both (λ b. (y : ℕ) → member y xs ≡ true → member y (b .held) ≡ true → b ≡ blockOf α p ks y) (λ b. member x (b .held) ≡ true → b ≡ blockOf α p ks x) (blocks α p ks) (owners xs a) (holder x m))
+          (all-both (Owned xs) (λ b. member x (b .held) ≡ true → b ≡ blockOf α p ks x) (blocks α p ks) (owners xs a) (holder x m))
 
-  met-levels : (xs : List ℕ) → All (λ x. member x ks ≡ true) xs → Pairwise SameBlock xs → length (keep (holds-some xs) (blocks α p ks)) ≡ length (distinct (map (blockLevel α p ks) xs))
+  pub met-levels : (xs : List ℕ) → All (λ x. member x ks ≡ true) xs → Pairwise SameBlock xs → length (keep (holds-some xs) (blocks α p ks)) ≡ length (distinct (map (blockLevel α p ks) xs))
   unfolding holds-some
   met-levels [] a s = none
     where
@@ -165,5 +166,5 @@ module _ (α : ℕ) (p : ℕ → ℕ) (wide : 2 ≤ α) (ks : List ℕ) (rising 
 
   -- the number of different blocks that hold the keys on a path is the number of different levels on it
   pub blocks-met-is : (v : ℕ) → blocksMet α p ks v ≡ length (distinct (map (blockLevel α p ks) (path v (treap p ks))))
-  unfolding blocksMet holds-some
+  unfolding blocksMet meets holds-some
   blocks-met-is v = met-levels (path v (treap p ks)) (path-keys v) (path-level-block v)

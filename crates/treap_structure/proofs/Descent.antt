@@ -13,13 +13,11 @@ use Rattle.lists.proofs.Tests.{Compared, compared, by-test}
 use Rattle.lists.proofs.Tests.Compared.{less, same, more}
 use Rattle.lists.proofs.Keep.{all-append-left}
 use Rattle.lists.proofs.Membership.{all-member}
-use Rattle.priority.specs.Priority.{priorityOf}
-use Rattle.treap.specs.Treap.{Tree, keys, rootKey, leftOf, rightOf, subtree, path, treap, leftLink, rightLink}
+use Rattle.treap.specs.Treap.{Tree, keys, rootKey, leftOf, rightOf, subtree, path}
 use Rattle.treap.specs.Treap.Tree.{leaf, node}
 use Rattle.treap_structure.proofs.Shape.{size, keys-root, Good, lesser-below, greater-above}
 use Rattle.treap_structure.proofs.Subtrees.{subtree-root, subtree-left, subtree-right, path-root, good-subtree, member-left, member-right}
 use Rattle.treap_structure.proofs.Paths.{left-member, right-member, subtree-below}
-use Rattle.table_entries.specs.Steps.{nextKey}
 
 -- ---- any tree
 -- a tree is the subtree of its root
@@ -105,10 +103,3 @@ module _ (p : ℕ → ℕ) where
         by-test (ltb v (rootKey (subtree at t)))
         (λ f. rw f (left-again (subtree at t) refl))
         (λ f. rw f (right-again (subtree at t) refl))
-
--- the key that the search compares next is the root of the side
-pub next-is-side : (ks : List ℕ) (at v : ℕ) → rootKey (subtree at (treap priorityOf ks)) ≡ at
-    → nextKey ks at v ≡ rootKey (side v (subtree at (treap priorityOf ks)))
-unfolding side nextKey leftLink rightLink
-next-is-side ks at v e =
-    by-test (ltb v at) (λ f. rw (f, e, f)) (λ f. rw (f, e, f))

@@ -1,0 +1,21 @@
+-- `table_descend::look_up` meets its contract. Assumes nothing.
+use mathlib.Core.Path.{_∙_}
+use borrow.Author.Needs.{needs}
+use Rattle.table.specs.Table.{contentsOf}
+use Rattle.table_descend.proofs.InRow.{first-lookup}
+use Rattle.table_descend.proofs.look_up.Statement.{statement}
+use Rattle.table_descend.proofs.look_up.Tie as tie
+
+constant-table-requires : tie.Need-constant-table-requires
+constant-table-requires c κs = search needs
+
+look-up-after-requires : tie.Need-look-up-after-requires
+look-up-after-requires c κs = search needs
+
+returns : tie.Need-returns
+returns c =
+    let args = c .before .before .before .before .args in
+    c .look-up-after .ensures ∙ first-lookup (contentsOf (args .many) (args .table .now)) (args .key)
+
+pub look-up-spec : {M : Type 1} → statement M
+look-up-spec = tie.close (tie.spec constant-table-requires look-up-after-requires returns)
