@@ -1,4 +1,3 @@
 -- Laws of steps, one subject a file.
 pub mod Moving
 pub mod Stepping
-pub mod TwoFacts

@@ -50,7 +50,7 @@ use Rattle.call_replies.proofs.Stepped.Laws as S′
 use Rattle.call_step.specs.Steps.{stepReply, stepPlace}
 use Rattle.call_step.specs.declared.Place.{Place}
 use Rattle.call_step.specs.declared.Moved.{Moved}
-use Rattle.call_step.proofs.TwoFacts.{both-heard, says-both}
+use Rattle.walks.proofs.TwoFacts.{both-heard, says-both}
 use Rattle.call_step.proofs.Place as P
 use Rattle.call_step.proofs.Place.Laws as P′
 use Rattle.call_step.proofs.Moved as O

@@ -1,0 +1,1 @@
+// Laws for proofs by hand, of functions over structs that are lent. No code.
