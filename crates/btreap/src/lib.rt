@@ -1,6 +1,7 @@
 // The calls of the index as functions that a C or a Rust program links. Each takes any words, numbers and bytes, keeps no state, and
 // changes none of the lent memory where it refuses.
 ghost use mathlib.Core.Path.{_≡_};
+ghost use Rattle.call_batch.specs.Batch.{batchReply, batchAfter};
 ghost use Rattle.call_step.specs.Steps.{stepReply, stepPlace};
 ghost use Rattle.call_meaning.specs.Calls.{setUpReply, setUpAfter, loadReply, loadAfter, buildReply, buildAfter, insertReply, insertAfter, deleteReply, deleteAfter, lookupReply, rangeReply, rangeOutput, writeReply, writeOutput, readReply, readAfter};
 ghost use Rattle.call_list.specs.Listed.{listReply, listOutput};
@@ -9,6 +10,7 @@ use btreap_structs::FoundReply;
 use btreap_structs::RankedReply;
 use btreap_structs::SizedReply;
 use btreap_structs::SteppedReply;
+use index::Question;
 
 // Make of any words of a right length the blank table of an order. Refusals: 1, 2.
 #[no_mangle]
@@ -67,6 +69,17 @@ pub extern "C" fn btreap_lookup(table: &[u64], key: u64) -> FoundReply
 {
     let answer = index::look_up(table, key);
     btreap_structs::looked_up(answer)
+}
+
+// Look the strictly rising keys of a batch up, and fill in at each whether it is held, and its rank; how many different blocks hold the
+// keys compared. Refusals: 1, 5, 7.
+#[no_mangle]
+pub extern "C" fn btreap_lookup_batch(table: &[u64], questions: &mut [Question]) -> SizedReply
+    ensures { λ r. ⌜ sized r ≡ batchReply (now (table .entry)) (now (questions .entry)) ⌝ }
+    ensures { λ _. ⌜ now (questions .exit) ≡ batchAfter (now (table .entry)) (now (questions .entry)) ⌝ }
+{
+    let answer = index::look_up_batch(table, questions);
+    btreap_structs::batched(answer)
 }
 
 // Write at the start of `output` the keys that the table holds from `low` to `high`, both included, rising. Refusals: 1, 4, 7, 11.

@@ -1,8 +1,9 @@
 // The answers of the calls as the structs of `include/btreap.h`: the number of a refusal, zero where there is none, and the other
 // numbers, zero where there is one.
 ghost use mathlib.Core.Path.{_≡_};
-ghost use Rattle.call_replies.specs.Replies.{numberOf, setUpOf, loadedOf, builtOf, insertedOf, deletedOf, lookedUpOf, rangedOf, steppedOf, writtenOf, readBackOf, listedOf};
+ghost use Rattle.call_replies.specs.Replies.{numberOf, setUpOf, loadedOf, builtOf, insertedOf, deletedOf, lookedUpOf, batchedOf, rangedOf, steppedOf, writtenOf, readBackOf, listedOf};
 ghost use Rattle.btreap_structs.specs.Structs.{ranked, found, sized, stepped, markAfter};
+use call_replies::Batched;
 use call_replies::Built;
 use call_replies::Deleted;
 use call_replies::Inserted;
@@ -160,6 +161,15 @@ pub fn looked_up(answer: LookedUp) -> FoundReply
             leader: 0,
             blocks: 0,
         },
+    }
+}
+
+pub fn batched(answer: Batched) -> SizedReply
+    ensures { λ r. ⌜ sized r ≡ batchedOf answer ⌝ }
+{
+    match answer {
+        Batched::Blocks(size) => size_given(size),
+        Batched::Refused(reason) => size_refused(reason),
     }
 }
 

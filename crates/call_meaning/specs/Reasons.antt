@@ -32,7 +32,7 @@ zeroKey key = record { number = 3; applies = eqb key 0 }
 unfoldable pub lowAboveHigh : ℕ → ℕ → Reason
 lowAboveHigh low high = record { number = 4; applies = ltb high low }
 
--- "5. The build list is not strictly rising or has a zero."
+-- "5. The build list is not strictly rising or has a zero" (01); "5 also means a sheet that does not rise or has a zero" (02, N2).
 unfoldable pub notRising : List ℕ → Reason
 notRising list = record { number = 5; applies = not (risingKeys list) }
 

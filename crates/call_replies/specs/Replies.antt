@@ -16,6 +16,8 @@ use Rattle.call_replies.specs.declared.Deleted.{Deleted}
 use Rattle.call_replies.specs.declared.Deleted.the-variants as deleted
 use Rattle.call_replies.specs.declared.LookedUp.{LookedUp}
 use Rattle.call_replies.specs.declared.LookedUp.the-variants as looked-up
+use Rattle.call_replies.specs.declared.Batched.{Batched}
+use Rattle.call_replies.specs.declared.Batched.the-variants as batched
 use Rattle.call_replies.specs.declared.Ranged.{Ranged}
 use Rattle.call_replies.specs.declared.Ranged.the-variants as ranged
 use Rattle.call_replies.specs.declared.Written.{Written}
@@ -84,6 +86,11 @@ abbrev pub lookedUpOf : LookedUp → Reply
 lookedUpOf (looked-up.Held s blocks) = record { refusal = 0; numbers = 1 ∷ s .rank ∷ s .count ∷ s .leader ∷ blocks ∷ [] }
 lookedUpOf (looked-up.Absent blocks) = record { refusal = 0; numbers = 0 ∷ 0 ∷ 0 ∷ 0 ∷ blocks ∷ [] }
 lookedUpOf (looked-up.Refused r) = record { refusal = numberOf r; numbers = 0 ∷ 0 ∷ 0 ∷ 0 ∷ 0 ∷ [] }
+
+-- "The reply gives the number of different blocks over all the search paths" (02, N2).
+abbrev pub batchedOf : Batched → Reply
+batchedOf (batched.Blocks n) = record { refusal = 0; numbers = n ∷ [] }
+batchedOf (batched.Refused r) = record { refusal = numberOf r; numbers = 0 ∷ [] }
 
 -- "The held keys .. and their number".
 abbrev pub rangedOf : Ranged → Reply

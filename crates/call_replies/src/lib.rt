@@ -13,7 +13,7 @@ pub enum Refusal {
     ZeroKey,
     // Low is above high.
     LowAboveHigh,
-    // The list does not rise strictly, or has a zero.
+    // The keys of a list or of a batch do not rise strictly, or one is zero.
     NotRising,
     // The bytes are no image that the writer makes.
     NotAnImage,
@@ -82,6 +82,12 @@ pub enum Deleted {
 pub enum LookedUp {
     Held(Standing, usize),
     Absent(usize),
+    Refused(Refusal),
+}
+
+// The answer of a batch of lookups: how many different blocks hold the keys that were compared.
+pub enum Batched {
+    Blocks(usize),
     Refused(Refusal),
 }
 

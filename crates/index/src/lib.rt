@@ -10,7 +10,9 @@ pub use call_load::load;
 pub use call_delete::delete;
 pub use call_insert::insert;
 
-// Ask a table: all about one key, the keys from one to another, or these key by key, from a place that moves on.
+// Ask a table: all about one key, a batch of keys together, the keys from one to another, or these key by key, from a place that moves on.
+pub use call_batch::Question;
+pub use call_batch::look_up_batch;
 pub use call_lookup::look_up;
 pub use call_range::range;
 pub use call_step::Moved;

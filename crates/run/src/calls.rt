@@ -1,8 +1,10 @@
 // Each call with a line of text: the call, what it was given and, after the colon, its reply: the refusal's number, 0 for none, then the
 // reply's numbers.
 ghost use mathlib.Core.Path.{_≡_};
-ghost use Rattle.call_replies.specs.Replies.{steppedOf};
+ghost use Rattle.call_replies.specs.Replies.{batchedOf, steppedOf};
+ghost use Rattle.call_batch.specs.Batch.{batchReply, batchAfter};
 ghost use Rattle.call_step.specs.Steps.{stepReply, stepPlace};
+use call_replies::Batched;
 use call_replies::Built;
 use call_replies::Deleted;
 use call_replies::Inserted;
@@ -17,6 +19,10 @@ use call_replies::Stepped;
 use call_replies::Written;
 use index::Moved;
 use index::Place;
+use index::Question;
+
+// How many lines a batch has here.
+pub const BATCH: usize = 3;
 
 pub fn say(text: &[u8]) {
     io::write_all(1, text);
@@ -133,6 +139,65 @@ pub fn look_up(table: &[u64], key: u64) {
         }
         LookedUp::Refused(reason) => refused(reason),
     }
+    say(b"\n");
+}
+
+// The answer of a batch of lookups, and the lines as it left them.
+struct Asked {
+    answer: Batched,
+    lines: [Question; BATCH],
+}
+
+// A batch of lookups whose lines are lent to it.
+fn batch_lent(table: &[u64], lines: [Question; BATCH]) -> Asked
+    ensures { λ r. ⌜ batchedOf (r .answer) ≡ batchReply (now (table .entry)) lines ⌝ }
+    ensures { λ r. ⌜ r .lines ≡ batchAfter (now (table .entry)) lines ⌝ }
+{
+    let mut lent = lines;
+    let answer = index::look_up_batch(table, &mut lent);
+    Asked {
+        answer,
+        lines: lent,
+    }
+}
+
+// A line of a batch before its answer: in its places stand numbers that no answer here gives.
+fn asks(key: u64) -> Question {
+    Question {
+        key,
+        held: 9,
+        rank: 9,
+    }
+}
+
+fn tell_line(line: Question) {
+    say(b" line");
+    tell(line.key);
+    tell(line.held);
+    tell(line.rank);
+}
+
+// A batch of three keys, and its lines after it.
+pub fn look_up_batch(table: &[u64], first: u64, second: u64, third: u64) {
+    let lines = [asks(first), asks(second), asks(third)];
+    say(b"batch");
+    tell(first);
+    tell(second);
+    tell(third);
+    say(b":");
+    let asked = batch_lent(table, lines);
+    let answer = asked.answer;
+    let left = asked.lines;
+    match answer {
+        Batched::Blocks(n) => {
+            tell(0);
+            tell(n as u64);
+        }
+        Batched::Refused(reason) => refused(reason),
+    }
+    tell_line(left[0]);
+    tell_line(left[1]);
+    tell_line(left[2]);
     say(b"\n");
 }
 

@@ -80,6 +80,9 @@ fn ask(table: &[u64]) {
     calls::look_up(table, 0);
     calls::look_up(table, 7);
     calls::look_up(table, 8);
+    calls::look_up_batch(table, 5, 6, 9);
+    calls::look_up_batch(table, 5, 5, 9);
+    calls::look_up_batch(table, 0, 5, 9);
     calls::range(table, 9, 5);
     calls::range(table, 5, 9);
     calls::range(table, 6, 9);
@@ -145,6 +148,7 @@ fn use_table(table: &mut [u64]) {
     calls::insert(table, 7);
     calls::delete(table, 5);
     calls::look_up(table, 5);
+    calls::look_up_batch(table, 5, 6, 9);
     calls::range(table, 5, 9);
     calls::step(table, Place::ALL);
     calls::write(table, &mut image);
