@@ -1,22 +1,26 @@
 -- Over a table that shows its book, each call replies, and leaves its output and its place, as the book says. Assumes such a table.
 use mathlib.Core.Bool.{Bool, true, false, cond}
 use mathlib.Core.List.{List, []}
-use mathlib.Core.Path.{_≡_, refl, sym}
+use mathlib.Core.Path.{_≡_, refl, sym, ap, ap₂}
 use Prim.Native.Nat.{ℕ}
 use lib.Dec.{eqb}
+use lib.ListN.{getD}
 use Rattle.lists.proofs.Tests.{by-test}
+use Rattle.lists.proofs.Keep.{all-always, map-same}
 use Rattle.table.specs.Contents.{Contents}
 use Rattle.table_least.specs.LeastKey.{leastWithin}
-use Rattle.call_replies.specs.Replies.{unlessRefused}
+use Rattle.call_replies.specs.Replies.{Reply, unlessRefused}
 use Rattle.call_meaning.specs.Calls.{grown, setUpReply, loadReply, buildReply, insertReply, deleteReply, lookupReply, rangeReply, rangeOutput, writeReply, writeOutput, readReply}
 use Rattle.call_step.specs.Steps.{endReply, yielded, sought, stepReply, stepPlace}
 use Rattle.call_step.specs.declared.Place.{Place}
-use Rattle.history.specs.Call.{Call, setUp, build, reading, insert, delete, lookup, range, writing, step, load, reply, output}
-use Rattle.history.specs.Book.{refusalBy, replyBy, outputBy, placeBy}
+use Rattle.call_batch.specs.Batch.{heldBy, rankBy, answered, batchReply, batchAfter}
+use Rattle.call_batch.specs.declared.Question.{Question}
+use Rattle.history.specs.Call.{Call, setUp, build, reading, insert, delete, lookup, range, writing, step, load, batch, reply, output}
+use Rattle.history.specs.Book.{refusalBy, replyBy, outputBy, placeBy, lineBy, linesBy}
 use Rattle.history.specs.Theorems.{Answers}
 use Rattle.call_replies.proofs.Refusals.{both-same}
 use Rattle.call_meaning.proofs.Shows.{Shows}
-use Rattle.history.proofs.Refused.{set-up-refused, load-refused, build-refused, reading-refused, insert-refused, delete-refused, lookup-refused, range-refused, writing-refused, step-accepted}
+use Rattle.history.proofs.Refused.{set-up-refused, load-refused, build-refused, reading-refused, insert-refused, delete-refused, lookup-refused, range-refused, writing-refused, batch-refused, step-accepted}
 
 -- a step that is not turned down gives no refusal's number
 step-said : (done : Bool) (key : ℕ) → cond done endReply (yielded key) ≡ record { refusal = 0; numbers = cond done endReply (yielded key) .numbers }
@@ -72,6 +76,10 @@ module _ (many : ℕ) (words : List ℕ) (book : Contents) (table : Shows many w
   unfolding writeReply replyBy
   writing-replies lent = rw (writing-refused many words book table lent, table .holds)
 
+  batch-replies : (questions : List Question) → batchReply words questions ≡ replyBy many (batch questions) book
+  unfolding batchReply replyBy
+  batch-replies questions = rw (batch-refused many words book table questions, table .holds)
+
   replies-by-book : (call : Call) → reply call words ≡ replyBy many call book
   replies-by-book (setUp order) = set-up-replies order
   replies-by-book (build order list) = build-replies order list
@@ -83,6 +91,7 @@ module _ (many : ℕ) (words : List ℕ) (book : Contents) (table : Shows many w
   replies-by-book (writing lent) = writing-replies lent
   replies-by-book (step place) = step-replies place
   replies-by-book (load order seed count) = load-replies order seed count
+  replies-by-book (batch questions) = batch-replies questions
 
   -- ---- outputs
   same-output : (call : Call) (lent : List ℕ) → lent ≡ unlessRefused (refusalBy many call book) lent lent
@@ -108,11 +117,23 @@ module _ (many : ℕ) (words : List ℕ) (book : Contents) (table : Shows many w
   outputs-by-book (writing lent) = writing-fills lent
   outputs-by-book (step place) = same-output (step place) []
   outputs-by-book (load order seed count) = same-output (load order seed count) []
+  outputs-by-book (batch questions) = same-output (batch questions) []
 
   -- ---- places
   places-by-book : (place : Place) → stepPlace words place ≡ placeBy place book
   unfolding stepPlace placeBy
   places-by-book place = rw (step-accepted many words book table, key-sought place)
 
+  -- ---- lines of batches
+  line-by-book : (q : Question) → answered words q ≡ lineBy many book q
+  unfolding answered heldBy rankBy lineBy
+  line-by-book q = ap (λ (r : Reply). record { key = q .key; held = getD (r .numbers) 0 0; rank = getD (r .numbers) 1 0 }) (lookup-replies (q .key))
+
+  lines-by-book : (questions : List Question) → batchAfter words questions ≡ linesBy many questions book
+  unfolding batchAfter linesBy
+  lines-by-book questions =
+      ap₂ (λ (number : ℕ) (lines : List Question). unlessRefused number lines questions) (batch-refused many words book table questions)
+      (map-same (answered words) (lineBy many book) questions (all-always (λ q. answered words q ≡ lineBy many book q) line-by-book questions))
+
   pub answers : Answers many words book
-  answers = record { replies = replies-by-book; outputs = outputs-by-book; places = places-by-book }
+  answers = record { replies = replies-by-book; outputs = outputs-by-book; places = places-by-book; lines = lines-by-book }

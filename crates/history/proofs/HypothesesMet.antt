@@ -23,6 +23,7 @@ every-call =
       ranges = λ low high output first second sized. (first, second, sized);
       writings = λ output small. small;
       steps = λ place first second. (first, second);
+      batches = λ questions sized. sized;
       loads = λ order seed count word start few. (word, start, few);
     }
 

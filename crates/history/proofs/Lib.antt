@@ -1,6 +1,7 @@
 -- Laws of histories, one subject a file; `Claims` has demands 3 and 2 whole.
 pub mod Refused
 pub mod Answering
+pub mod Asking
 pub mod Entering
 pub mod Entries
 pub mod Running

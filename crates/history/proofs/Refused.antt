@@ -6,7 +6,9 @@ use Rattle.table.specs.Contents.{Contents}
 use Rattle.call_meaning.specs.Reasons.{wrongLength, notSound, keyHeld, keyAbsent, tooManyKeys}
 use Rattle.call_meaning.specs.Calls.{grown, setUpRefusal, loadRefusal, buildRefusal, insertRefusal, deleteRefusal, lookupRefusal, rangeRefusal, writeRefusal, readRefusal}
 use Rattle.call_step.specs.Steps.{stepRefusal}
-use Rattle.history.specs.Call.{setUp, build, reading, insert, delete, lookup, range, writing, load}
+use Rattle.call_batch.specs.Batch.{batchRefusal}
+use Rattle.call_batch.specs.declared.Question.{Question}
+use Rattle.history.specs.Call.{setUp, build, reading, insert, delete, lookup, range, writing, load, batch}
 use Rattle.history.specs.Book.{refusalBy}
 use Rattle.call_meaning.proofs.Shows.{Shows}
 
@@ -46,6 +48,10 @@ module _ (many : ℕ) (words : List ℕ) (book : Contents) (table : Shows many w
   pub writing-refused : (lent : List ℕ) → writeRefusal words lent ≡ refusalBy many (writing lent) book
   unfolding writeRefusal refusalBy wrongLength notSound
   writing-refused lent = rw (table .right, table .sound, table .holds)
+
+  pub batch-refused : (questions : List Question) → batchRefusal words questions ≡ refusalBy many (batch questions) book
+  unfolding batchRefusal refusalBy wrongLength notSound
+  batch-refused questions = rw (table .right, table .sound)
 
   pub step-accepted : stepRefusal words ≡ 0
   unfolding stepRefusal wrongLength notSound

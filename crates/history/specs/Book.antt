@@ -1,13 +1,13 @@
 -- The book: an order and a set of keys, "fed the calls with their inputs, no reply and no word of its own table"; and what the calls
 -- answer by the book. M, the number of slots, is `many`. Assumes nothing.
 use mathlib.Core.Bool.{cond, not}
-use mathlib.Core.List.{List, [], _∷_, _++_}
+use mathlib.Core.List.{List, [], _∷_, _++_, map}
 use Prim.Native.Nat.{ℕ}
 use lib.Dec.{ltb}
-use lib.ListN.{length}
+use lib.ListN.{length, getD}
 use Rattle.lists.specs.Lists.{member, overwrite}
 use Rattle.priority.specs.Priority.{priorityOf}
-use Rattle.treap.specs.Blocks.{blocksMet}
+use Rattle.treap.specs.Blocks.{blocksMet, blocksMetByAll}
 use Rattle.table.specs.Contents.{Contents}
 use Rattle.image.specs.Image.{imageOf, readImage}
 use Rattle.call_sets.specs.Sets.{joined, without}
@@ -19,7 +19,9 @@ use Rattle.call_meaning.specs.Reasons.{wrongOrder, zeroKey, lowAboveHigh, notRi
 use Rattle.call_meaning.specs.Calls.{rankIn, standingIn}
 use Rattle.call_step.specs.Steps.{endReply, yielded, moved}
 use Rattle.call_step.specs.declared.Place.{Place}
-use Rattle.history.specs.Call.{Call, setUp, build, reading, insert, delete, lookup, range, writing, step, load}
+use Rattle.call_batch.specs.Batch.{keysOf}
+use Rattle.call_batch.specs.declared.Question.{Question}
+use Rattle.history.specs.Call.{Call, setUp, build, reading, insert, delete, lookup, range, writing, step, load, batch}
 
 -- ---- the entries
 -- "Set-up ..: the given order, no keys."
@@ -44,7 +46,7 @@ abbrev pub loadedBook : ℕ → ℕ → ℕ → ℕ → Contents
 loadedBook many order seed count = record { order = order; keys = loaded many seed count }
 
 -- The book after an accepted call: "Reading ..: the order and set whose image the bytes are"; "at a lookup, range or writing, the book
--- stays as it was", and steps "change neither table nor book".
+-- stays as it was", and steps and batches of lookups "change neither table nor book".
 abbrev pub entered : ℕ → Call → Contents → Contents
 entered many (setUp order) book = blank order
 entered many (build order list) book = listed order list
@@ -56,6 +58,7 @@ entered many (range low high output) book = book
 entered many (writing output) book = book
 entered many (step place) book = book
 entered many (load order seed count) book = loadedBook many order seed count
+entered many (batch questions) book = book
 
 -- ---- refusals
 -- "Refusals 2, 3, 5 and 6 are judged on the input, 8 to 10 on input, book and M."
@@ -81,6 +84,7 @@ reasons many (range low high output) book =
 reasons many (writing output) book = outputTooShort (length output) (length (imageOf book)) ∷ []
 reasons many (step place) book = []
 reasons many (load order seed count) book = wrongOrder order ∷ []
+reasons many (batch questions) book = notRising (keysOf questions) ∷ []
 
 unfoldable pub refusalBy : ℕ → Call → Contents → ℕ
 refusalBy many call book = lowest (reasons many call book)
@@ -112,6 +116,7 @@ numbersBy (range low high output) book = length (within low high (book .keys)) �
 numbersBy (writing output) book = length (imageOf book) ∷ []
 numbersBy (step place) book = cond (place .done) endReply (yielded (leastWithin (place .next) (place .high) (book .keys))) .numbers
 numbersBy (load order seed count) book = []
+numbersBy (batch questions) book = blocksMetByAll (book .order) priorityOf (book .keys) (keysOf questions) ∷ []
 
 -- "A refusal returns its number, all other numbers zero".
 abbrev pub zeros : Call → List ℕ
@@ -125,6 +130,7 @@ zeros (range low high output) = 0 ∷ []
 zeros (writing output) = 0 ∷ []
 zeros (step place) = 0 ∷ 0 ∷ []
 zeros (load order seed count) = []
+zeros (batch questions) = 0 ∷ []
 
 unfoldable pub replyBy : ℕ → Call → Contents → Reply
 replyBy many call book =
@@ -142,6 +148,7 @@ filled (range low high output) book = overwrite output 0 (within low high (book 
 filled (writing output) book = overwrite output 0 (imageOf book)
 filled (step place) book = []
 filled (load order seed count) book = []
+filled (batch questions) book = []
 
 abbrev pub lentOutput : Call → List ℕ
 lentOutput (setUp order) = []
@@ -154,6 +161,7 @@ lentOutput (range low high output) = output
 lentOutput (writing output) = output
 lentOutput (step place) = []
 lentOutput (load order seed count) = []
+lentOutput (batch questions) = []
 
 unfoldable pub outputBy : ℕ → Call → Contents → List ℕ
 outputBy many call book = unlessRefused (refusalBy many call book) (filled call book) (lentOutput call)
@@ -161,3 +169,16 @@ outputBy many call book = unlessRefused (refusalBy many call book) (filled call 
 -- Where a step leaves its place.
 unfoldable pub placeBy : Place → Contents → Place
 placeBy place book = cond (place .done) place (moved (leastWithin (place .next) (place .high) (book .keys)) place)
+
+-- How a batch leaves its lines: "each line says what a lookup on its own says", the first two numbers of its reply, and "a refusal fills in
+-- nothing".
+unfoldable pub lineBy : ℕ → Contents → Question → Question
+lineBy many book q =
+    record {
+      key = q .key;
+      held = getD (replyBy many (lookup (q .key)) book .numbers) 0 0;
+      rank = getD (replyBy many (lookup (q .key)) book .numbers) 1 0;
+    }
+
+unfoldable pub linesBy : ℕ → List Question → Contents → List Question
+linesBy many questions book = unlessRefused (refusalBy many (batch questions) book) (map (lineBy many book) questions) questions

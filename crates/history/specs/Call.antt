@@ -1,6 +1,6 @@
 -- The calls of a history, what each leaves of the table and answers, the calls that a load stands for, and whole histories. Assumes
 -- nothing.
-use mathlib.Core.Bool.{true, cond}
+use mathlib.Core.Bool.{Bool, true, false, cond}
 use mathlib.Core.List.{List, [], _∷_, map, flatMap}
 use mathlib.Core.Path.{_≡_}
 use Prim.Native.Nat.{ℕ, _^_, _<_}
@@ -12,10 +12,12 @@ use Rattle.call_replies.specs.Replies.{Reply}
 use Rattle.call_meaning.specs.Calls.{setUpAfter, setUpReply, loadAfter, loadReply, buildAfter, buildReply, readAfter, readReply, insertAfter, insertReply, deleteAfter, deleteReply, lookupReply, rangeReply, rangeOutput, writeReply, writeOutput}
 use Rattle.call_step.specs.Steps.{stepReply}
 use Rattle.call_step.specs.declared.Place.{Place}
+use Rattle.call_batch.specs.Batch.{batchReply}
+use Rattle.call_batch.specs.declared.Question.{Question}
 
 -- "A history is a list of set-up, build, reading (of an image), insert, delete, lookup, range and writing (of one), refused calls
--- included .. Each call brings its own inputs, whatever they hold, and its own output .. steps .. may come anywhere between" (01);
--- and a load (02, N1).
+-- included .. Each call brings its own inputs, whatever they hold, and its own output .. steps, and calls of document 02 that write no word
+-- of this table, may come anywhere between" (01); of document 02 a load (N1) and a batch of lookups (N2).
 pub data Call : Type 0 where
   setUp : (order : ℕ) → Call
   build : (order : ℕ) → (list : List ℕ) → Call
@@ -27,10 +29,15 @@ pub data Call : Type 0 where
   writing : (output : List ℕ) → Call
   step : (place : Place) → Call
   load : (order : ℕ) → (seed : ℕ) → (count : ℕ) → Call
+  batch : (questions : List Question) → Call
 
 -- What can be lent as a word; what can be lent as a byte is `IsByte`. Nothing more is asked of inputs.
 abbrev pub IsWord : ℕ → Type 0
 IsWord n = n < 2 ^ 64
+
+-- What can be lent as a line of a batch, its places whatever they hold.
+abbrev pub IsQuestion : Question → Type 0
+IsQuestion q = IsWord (q .key) × IsWord (q .held) × IsWord (q .rank)
 
 -- What each call can be lent; a load "a 64-bit seed" and "a 16-bit count".
 abbrev pub Lent : Call → Type 0
@@ -44,6 +51,7 @@ Lent (range low high output) = IsWord low × IsWord high × All IsWord output
 Lent (writing output) = All IsByte output
 Lent (step place) = IsWord (place .next) × IsWord (place .high)
 Lent (load order seed count) = IsWord order × IsWord seed × (count < 2 ^ 16)
+Lent (batch questions) = All IsQuestion questions
 
 -- The table's words after a call: those that the call's contract names, and the same words where it writes none.
 abbrev pub run : Call → List ℕ → List ℕ
@@ -57,6 +65,7 @@ run (range low high output) words = words
 run (writing output) words = words
 run (step place) words = words
 run (load order seed count) words = loadAfter words order seed count
+run (batch questions) words = words
 
 -- What a call over these words replies, as its contract says.
 abbrev pub reply : Call → List ℕ → Reply
@@ -70,8 +79,10 @@ reply (range low high output) words = rangeReply words low high output
 reply (writing output) words = writeReply words output
 reply (step place) words = stepReply words place
 reply (load order seed count) words = loadReply words order
+reply (batch questions) words = batchReply words questions
 
--- The output that a call over these words was lent, after it, as its contract says; none where it is lent none.
+-- The output that a call over these words was lent, after it, as its contract says; none where it is lent none. A step's place and a batch's
+-- lines are no such list; they have claims of their own.
 abbrev pub output : Call → List ℕ → List ℕ
 output (setUp order) words = []
 output (build order list) words = []
@@ -83,11 +94,26 @@ output (range low high lent) words = rangeOutput words low high lent
 output (writing lent) words = writeOutput words lent
 output (step place) words = []
 output (load order seed count) words = []
+output (batch questions) words = []
 
 -- "All its calls are lent one table, .. each as the call before left it".
 abbrev pub runs : List Call → List ℕ → List ℕ
 runs [] words = words
 runs (call ∷ calls) words = runs calls (run call words)
+
+-- The calls that are lent the table to read it alone.
+abbrev pub asks : Call → Bool
+asks (setUp order) = false
+asks (build order list) = false
+asks (reading bytes) = false
+asks (insert key) = false
+asks (delete key) = false
+asks (lookup key) = true
+asks (range low high output) = true
+asks (writing output) = true
+asks (step place) = true
+asks (load order seed count) = false
+asks (batch questions) = true
 
 -- ---- loads
 -- "insert", "delete", "lookup": the call that an operation of a load is.
@@ -112,6 +138,7 @@ standsFor (lookup key) = lookup key ∷ []
 standsFor (range low high output) = range low high output ∷ []
 standsFor (writing output) = writing output ∷ []
 standsFor (step place) = step place ∷ []
+standsFor (batch questions) = batch questions ∷ []
 standsFor (load order seed count) = cond (newOrder order) (callsOfLoad order seed count) []
 
 -- The calls that a list of calls stands for: none of them is a load.

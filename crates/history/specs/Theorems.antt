@@ -6,7 +6,7 @@ use mathlib.Core.Path.{_≡_}
 use Prim.Native.Nat.{ℕ, _≤_}
 use lib.Dec.{eqb}
 use lib.ListN.{length, take, getD}
-use Rattle.lists.specs.Lists.{All, member}
+use Rattle.lists.specs.Lists.{All, keep, member}
 use Rattle.table.specs.Layout.{mostSlots, tableWords}
 use Rattle.table.specs.Contents.{Contents, Valid}
 use Rattle.table.specs.Table.{fresh, Sound}
@@ -14,9 +14,11 @@ use Rattle.image.specs.Image.{imageOf, readImage, isImage}
 use Rattle.call_meaning.specs.Calls.{loadRefusal, writeRefusal, writeReply, writeOutput}
 use Rattle.call_step.specs.Steps.{stepPlace}
 use Rattle.call_step.specs.declared.Place.{Place}
-use Rattle.history.specs.Call.{Call, load, Opening, opened, Accepted, History, callsOf, callsOfLoad, spelledOut, run, runs, reply, output}
+use Rattle.call_batch.specs.Batch.{batchAfter}
+use Rattle.call_batch.specs.declared.Question.{Question}
+use Rattle.history.specs.Call.{Call, load, asks, Opening, opened, Accepted, History, callsOf, callsOfLoad, spelledOut, run, runs, reply, output}
 use Rattle.image.specs.Layout.{IsByte}
-use Rattle.history.specs.Book.{withKey, withoutKey, refusalBy, note, notes, bookOf, replyBy, outputBy, placeBy}
+use Rattle.history.specs.Book.{withKey, withoutKey, refusalBy, note, notes, bookOf, replyBy, outputBy, placeBy, linesBy}
 
 -- "A table has M slots, M from 1 to 4,096, and lives in lent 64-bit words, 3 + 6·M of them": any words of that number.
 pub record Table (many : ℕ) (words : List ℕ) : Type 0 where
@@ -88,9 +90,20 @@ pub record Answers (many : ℕ) (words : List ℕ) (book : Contents) : Type 0 wh
   pub replies : (call : Call) → reply call words ≡ replyBy many call book
   pub outputs : (call : Call) → output call words ≡ outputBy many call book
   pub places : (place : Place) → stepPlace words place ≡ placeBy place book
+  pub lines : (questions : List Question) → batchAfter words questions ≡ linesBy many questions book
 
 abbrev pub AnswersFromBook : Type 0
 AnswersFromBook = (many : ℕ) (words : List ℕ) (history : History) → Table many words → Answers many (tableAfter history words) (bookAfter many history)
+
+-- ---- calls that only ask
+-- "At a lookup, range or writing, the book stays as it was .. steps, and calls of document 02 that write no word of this table, may come
+-- anywhere between, and change neither table nor book": a call that only asks leaves every word and the book, and a history without such
+-- calls leaves the same words and the same book.
+pub record AskingChangesNothing : Type 0 where
+  pub table : (call : Call) → asks call ≡ true → (words : List ℕ) → run call words ≡ words
+  pub book : (call : Call) → asks call ≡ true → (many : ℕ) (book : Contents) → note many call book ≡ book
+  pub table-after : (history : History) (words : List ℕ) → tableAfter history words ≡ runs (keep (λ call. not (asks call)) (callsOf history)) words
+  pub book-after : (many : ℕ) (history : History) → bookAfter many history ≡ bookOf many (keep (λ call. not (asks call)) (callsOf history))
 
 -- ---- the beginning of a history
 -- A first call, a set-up or a load, is accepted over any words exactly when its order may be set up, as `History` asks.
