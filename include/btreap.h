@@ -17,7 +17,7 @@
  *    2  the order is outside 3 to 255
  *    3  the key is zero
  *    4  low is above high
- *    5  the list of keys does not rise strictly, or has a zero
+ *    5  the keys of a list or of a batch do not rise strictly, or one is zero
  *    6  the bytes are not an image of any order and any set of at most 4,096 keys
  *    7  the table is not sound: some word is not what its order and keys make it
  *    8  the key to insert is held
@@ -80,6 +80,11 @@ struct btreap_stepped {
     uint64_t refusal, found, key, next, high, done;
 };
 
+/* One line of a batch: the key to look up, and the places for what is said of it. */
+struct btreap_question {
+    uint64_t key, held, rank;
+};
+
 /* Make of any words the blank table of an order. Gives the refusal: 1, 2. */
 uint64_t btreap_set_up(uint64_t *table, size_t words, uint64_t order);
 
@@ -101,6 +106,13 @@ struct btreap_ranked btreap_delete(uint64_t *table, size_t words, uint64_t key);
 /* Look a key up: held is 1 or 0; rank, count and leader of a held key, zeros for an absent one; and how many different blocks hold the
  * keys that were compared on the way down. Refusals: 1, 3, 7. */
 struct btreap_found btreap_lookup(const uint64_t *table, size_t words, uint64_t key);
+
+/* Look n keys up together, such as those of one order sheet: the table is judged once for all of them. The keys rise strictly, and none is
+ * zero; what held and rank of a question were does not matter. Each question then has held (1 or 0) and rank (0 when absent) as
+ * btreap_lookup says them of its key, and its key as it was; size is how many different blocks hold the keys that were compared on all the
+ * ways down, each block counted once. questions may be null when n is 0; no block is met then. A refusal leaves every question as it was.
+ * Refusals: 1, 5, 7. */
+struct btreap_sized btreap_lookup_batch(const uint64_t *table, size_t words, struct btreap_question *questions, size_t n);
 
 /* Write at the start of out the held keys from low to high, both included, rising; size is their number, and later words of out are as they
  * were. Refusals: 1, 4, 7, 11. */

@@ -1,12 +1,13 @@
 //! Before a case is timed: the library and the second program's fast form must
 //! do the same on it, or their times would not be times of one job.
 
+use crate::batch::{for_fast, for_library};
 use crate::case::{Case, ORDER};
 use crate::load;
 use btreap::Found;
 use reference::fast;
 
-/// Ends the run where a table, an image, a listing or a reply differs.
+/// Ends the run where a table, an image, a listing, a question or a reply differs.
 pub fn check(case: &Case, table: &[u64], image: &[u8]) {
     let mut other = vec![0; table.len()];
     fast::build(&mut other, ORDER, &case.keys);
@@ -18,6 +19,7 @@ pub fn check(case: &Case, table: &[u64], image: &[u8]) {
     let room = 100 * (case.keys.len() + 1);
     let text = output(room, |out| fast::list(image, out).length);
     assert!(text == output(room, |out| btreap::list(image, out).map_or(0, |n| n as u64)));
+    check_batch(table, &case.batch);
     for &key in case.held.iter().chain(&case.absent) {
         check_look_up(table, key);
         check_change(
@@ -73,6 +75,15 @@ fn check_look_up(table: &[u64], key: u64) {
         },
     };
     assert_eq!(btreap::look_up(table, key), Ok(found));
+}
+
+/// Both meet as many blocks and say the same of each key.
+fn check_batch(table: &[u64], keys: &[u64]) {
+    let (mut one, mut other) = (for_library(keys), for_fast(keys));
+    let reply = fast::look_up_batch(table, &mut other);
+    assert_eq!(btreap::look_up_batch(table, &mut one), Ok(reply.blocks));
+    let said = one.iter().map(|question| (question.held, question.rank));
+    assert!(said.eq(other.iter().map(|question| (question.held, question.rank))));
 }
 
 /// Both give the same rank, zero when refused, and leave the same words.

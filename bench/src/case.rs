@@ -11,6 +11,9 @@ pub const ORDER: u64 = 16;
 /// How many keys a row takes in turn, so that no figure hangs on one key.
 pub const TURNS: usize = 16;
 
+/// How many keys a batch has.
+pub const BATCH: usize = 300;
+
 pub struct Case {
     pub name: String,
     pub slots: usize,
@@ -20,6 +23,8 @@ pub struct Case {
     pub held: Vec<u64>,
     /// Absent keys to look up and to insert.
     pub absent: Vec<u64>,
+    /// Keys to look up together, rising.
+    pub batch: Vec<u64>,
 }
 
 /// All cases, in the order of the report.
@@ -42,6 +47,7 @@ fn random(slots: usize, number: usize) -> Case {
     Case {
         name,
         slots,
+        batch: batch(&keys),
         keys,
         held,
         absent,
@@ -68,6 +74,7 @@ fn chain() -> Case {
     Case {
         name,
         slots: 4096,
+        batch: batch(&keys),
         keys,
         held,
         absent,
@@ -91,10 +98,28 @@ fn one_home() -> Case {
     Case {
         name,
         slots: SLOTS,
+        batch: batch(&keys),
         keys,
         held,
         absent,
     }
+}
+
+/// The keys of a batch, rising. Half of them are held, or all that are held where
+/// these are fewer, at equal distances; the others are next to held ones.
+fn batch(keys: &[u64]) -> Vec<u64> {
+    let (number, half) = (keys.len(), BATCH / 2);
+    let held = half.min(number);
+    let mut batch: BTreeSet<u64> = (0..held).map(|i| keys[i * number / held]).collect();
+    let places = (0..half).map(|i| (2 * i + 1) * number / BATCH);
+    let near = (1..).flat_map(|distance| places.clone().map(move |place| keys[place] + distance));
+    for key in near.filter(|key| keys.binary_search(key).is_err()) {
+        if batch.len() == BATCH {
+            break;
+        }
+        batch.insert(key);
+    }
+    batch.into_iter().collect()
 }
 
 /// So many different keys, rising, and some more that are not among them.

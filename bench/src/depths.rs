@@ -3,7 +3,7 @@
 use crate::black_box::black_box;
 use crate::case::ORDER;
 use crate::stack::depth;
-use btreap::{Place, Refusal, LONGEST_IMAGE, MOST_SLOTS};
+use btreap::{Place, Question, Refusal, LONGEST_IMAGE, MOST_SLOTS};
 use reference::random::splitmix;
 use std::collections::BTreeSet;
 
@@ -31,6 +31,7 @@ fn depths(slots: usize) -> Vec<(&'static str, usize)> {
     let t = &mut table[..];
     let (mut image, mut text) = (vec![0; LONGEST_IMAGE], vec![0; 100 * (slots + 1)]);
     let mut words = vec![0; slots];
+    let mut batch: Vec<Question> = keys.iter().map(|&key| Question::new(key)).collect();
     let mut depths = vec![];
     let mut measure = |call, job: &mut dyn FnMut()| depths.push((call, depth(job)));
     measure("(no call)", &mut || ());
@@ -40,6 +41,7 @@ fn depths(slots: usize) -> Vec<(&'static str, usize)> {
     measure("delete", &mut || done(btreap::delete(t, key)));
     measure("insert", &mut || done(btreap::insert(t, key)));
     measure("lookup", &mut || done(btreap::look_up(t, key)));
+    measure("batch", &mut || done(btreap::look_up_batch(t, &mut batch)));
     measure("range", &mut || {
         done(btreap::range(t, 0, u64::MAX, &mut words))
     });

@@ -1,6 +1,7 @@
 //! Times and stack use of the library's calls. See `README.md`.
 
 mod agree;
+mod batch;
 mod black_box;
 mod candidates;
 mod case;

@@ -1,7 +1,8 @@
 //! The report, in Markdown.
 
 use crate::agree;
-use crate::case::{self, Case, ORDER};
+use crate::batch;
+use crate::case::{self, Case, BATCH, ORDER};
 use crate::load;
 use crate::rows::{Lent, Row};
 use crate::timing::least;
@@ -28,6 +29,7 @@ fn print_case(case: &Case) {
         .iter()
         .map(|row| row.1[1])
         .fold(f64::INFINITY, f64::min);
+    let batch = time_of(&rows, &batch::call());
     println!("\n### {}\n", case.name);
     println!("| call | µs | × (a) | × (b) | × (c) |");
     println!("|---|---:|---:|---:|---:|");
@@ -44,6 +46,26 @@ fn print_case(case: &Case) {
         lent.table.len(),
         figures(words / 1000.0)
     );
+    print_one_by_one(batch, lent.one_by_one());
+}
+
+/// What the batch takes beside the lookups of its keys one by one.
+fn print_one_by_one(batch: f64, one_by_one: f64) {
+    println!(
+        "The lookups of the batch's keys one by one take {} µs, {} times the batch;",
+        figures(one_by_one / 1000.0),
+        figures(one_by_one / batch)
+    );
+    println!(
+        "the batch takes {} times one of them.",
+        figures(batch / (one_by_one / BATCH as f64))
+    );
+}
+
+/// The library's time in the row of that call.
+fn time_of(rows: &[(String, [f64; 4])], call: &str) -> f64 {
+    let row = rows.iter().find(|row| row.0 == call);
+    row.expect("there is such a row").1[0]
 }
 
 /// The load, whose times are in milliseconds, and the candidates for it.

@@ -20,7 +20,7 @@ pub struct Row<'a> {
 
 /// A case with the sound table for its keys, its image and its listing's length.
 pub struct Lent<'a> {
-    case: &'a Case,
+    pub case: &'a Case,
     pub table: Vec<u64>,
     pub image: Vec<u8>,
     text: usize,
@@ -47,7 +47,7 @@ impl<'a> Lent<'a> {
         self.case.keys.len() == self.case.slots
     }
 
-    fn row(
+    pub fn row(
         &'a self,
         call: &str,
         ours: Candidate<'a>,
@@ -68,6 +68,7 @@ impl<'a> Lent<'a> {
             self.delete(),
             self.look_up("lookup, held", &self.case.held),
             self.look_up("lookup, absent", &self.case.absent),
+            self.batch(),
             self.range("range, whole", 0, u64::MAX),
             self.small_range(),
             self.step(),

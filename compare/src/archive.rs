@@ -4,7 +4,7 @@
 use crate::call::{Call, Place};
 use crate::outcome::{Outcome, Reply};
 use crate::pages::{Access, Cell, Flush, Pages};
-use btreap::sys;
+use btreap::{sys, Question};
 use std::ptr;
 
 /// The address that goes with a length of zero: some address, or none.
@@ -30,6 +30,7 @@ fn run_once(call: &Call, table: &[u64], empty: Empty, flush: Flush) -> Outcome {
         table: lent.table.content().to_vec(),
         words: lent.words.content().to_vec(),
         bytes: lent.bytes.content().to_vec(),
+        questions: lent.questions.content().to_vec(),
     }
 }
 
@@ -43,6 +44,7 @@ pub struct Lent {
     pub image: Pages<u8>,
     pub words: Pages<u64>,
     pub bytes: Pages<u8>,
+    pub questions: Pages<Question>,
 }
 
 impl Lent {
@@ -53,6 +55,7 @@ impl Lent {
             image: Pages::new(call.image(), flush, Access::Read),
             words: Pages::new(&call.output_words(), flush, Access::Write),
             bytes: Pages::new(&call.output_bytes(), flush, Access::Write),
+            questions: Pages::new(&call.questions(), flush, Access::Write),
         }
     }
 
@@ -63,6 +66,7 @@ impl Lent {
         let (image, length) = lend(&self.image, empty);
         let (words, _) = lend(&self.words, empty);
         let (bytes, _) = lend(&self.bytes, empty);
+        let (questions, lines) = lend(&self.questions, empty);
         // SAFETY: each address goes with its own length, and no two overlap.
         let reply = unsafe {
             match *call {
@@ -74,6 +78,7 @@ impl Lent {
                 Call::Insert { key } => ranked(sys::btreap_insert(t, n, key)),
                 Call::Delete { key } => ranked(sys::btreap_delete(t, n, key)),
                 Call::LookUp { key } => found(sys::btreap_lookup(t, n, key)),
+                Call::LookUpBatch { .. } => sized(sys::btreap_lookup_batch(t, n, questions, lines)),
                 Call::Range { low, high, room } => {
                     sized(sys::btreap_range(t, n, low, high, words, room))
                 }
@@ -94,6 +99,7 @@ impl Lent {
             ("beside the table", self.table.paint_holds()),
             ("beside the output words", self.words.paint_holds()),
             ("beside the output bytes", self.bytes.paint_holds()),
+            ("beside the questions", self.questions.paint_holds()),
         ];
         let written = kept.into_iter().filter(|(_, kept)| !kept);
         written.map(|(name, _)| name).collect()
@@ -167,6 +173,19 @@ mod tests {
             // SAFETY: within the page, which is ours.
             unsafe { *lent.bytes.start().offset(beside) ^= 1 };
             assert_eq!(lent.stray(), ["beside the output bytes"]);
+        }
+    }
+
+    #[test]
+    fn a_write_beside_the_questions_is_named() {
+        let keys = vec![4, 9];
+        let call = Call::LookUpBatch { keys };
+        for (flush, beside) in [(Flush::Start, 2), (Flush::End, -1)] {
+            let lent = Lent::new(&call, &[], flush);
+            assert_eq!(lent.stray(), [""; 0]);
+            // SAFETY: as above.
+            unsafe { (*lent.questions.start().offset(beside)).rank ^= 1 };
+            assert_eq!(lent.stray(), ["beside the questions"]);
         }
     }
 

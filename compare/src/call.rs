@@ -1,6 +1,7 @@
-//! The eleven calls, each with all that it is given but the table.
+//! The twelve calls, each with all that it is given but the table.
 
 use crate::pages::Access;
+use btreap::Question;
 use reference::calls;
 use std::fmt;
 
@@ -39,6 +40,7 @@ pub enum Call {
     Insert { key: u64 },
     Delete { key: u64 },
     LookUp { key: u64 },
+    LookUpBatch { keys: Vec<u64> },
     Range { low: u64, high: u64, room: usize },
     Step { place: Place },
     Write { room: usize },
@@ -52,7 +54,8 @@ impl Call {
         match self {
             Call::SetUp { .. } | Call::Build { .. } | Call::Read { .. } => Access::Write,
             Call::Load { .. } | Call::Insert { .. } | Call::Delete { .. } => Access::Write,
-            Call::LookUp { .. } | Call::Range { .. } | Call::Step { .. } => Access::Read,
+            Call::LookUp { .. } | Call::LookUpBatch { .. } => Access::Read,
+            Call::Range { .. } | Call::Step { .. } => Access::Read,
             Call::Write { .. } | Call::List { .. } => Access::Read,
         }
     }
@@ -73,15 +76,27 @@ impl Call {
         }
     }
 
-    /// The output words as they are lent: no two of them alike, so that a word
-    /// written past the end or in the wrong place shows.
+    /// The questions as they are lent, what is to be filled in like output words.
+    pub fn questions(&self) -> Vec<Question> {
+        let keys: &[u64] = match self {
+            Call::LookUpBatch { keys } => keys,
+            _ => &[],
+        };
+        let question = |(i, &key): (usize, &u64)| Question {
+            key,
+            held: painted_word(2 * i),
+            rank: painted_word(2 * i + 1),
+        };
+        keys.iter().enumerate().map(question).collect()
+    }
+
+    /// The output words as they are lent.
     pub fn output_words(&self) -> Vec<u64> {
         let room = match self {
             Call::Range { room, .. } => *room,
             _ => 0,
         };
-        let word = |i: usize| 0xA5C3_96F0_0F69_3C5A ^ (i as u64).wrapping_mul(0x9E37_79B9);
-        (0..room).map(word).collect()
+        (0..room).map(painted_word).collect()
     }
 
     /// The output bytes as they are lent; neighbours differ.
@@ -116,6 +131,7 @@ impl fmt::Debug for Call {
             Call::Insert { key } => write!(out, "insert {key}"),
             Call::Delete { key } => write!(out, "delete {key}"),
             Call::LookUp { key } => write!(out, "look-up {key}"),
+            Call::LookUpBatch { keys } => write!(out, "look-up of a batch, {}", short(keys)),
             Call::Range { low, high, room } => {
                 write!(out, "range {low} to {high} into {room} words")
             }
@@ -127,6 +143,12 @@ impl fmt::Debug for Call {
             }
         }
     }
+}
+
+/// What an output word holds before the call: no two are alike, so that a word
+/// written past the end or in the wrong place shows.
+fn painted_word(place: usize) -> u64 {
+    0xA5C3_96F0_0F69_3C5A ^ (place as u64).wrapping_mul(0x9E37_79B9)
 }
 
 /// Numbers up to some length, then how many there are.

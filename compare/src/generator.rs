@@ -1,18 +1,20 @@
 //! Random calls for histories: mostly sensible ones, with a share of bad
 //! inputs of every kind.
 
+use crate::batches::random_batch;
 use crate::call::{Call, Place};
 use crate::outcome::Outcome;
 use crate::random::Random;
 use crate::tables::{image_of, keys_in, listing_length};
 
 /// How many of a hundred calls are of each kind.
-const SHARES: [(usize, Kind); 11] = [
+const SHARES: [(usize, Kind); 12] = [
     (20, Kind::Insert),
     (16, Kind::Delete),
-    (12, Kind::Step),
-    (12, Kind::LookUp),
-    (10, Kind::Range),
+    (10, Kind::Step),
+    (10, Kind::LookUp),
+    (8, Kind::Range),
+    (6, Kind::LookUpBatch),
     (8, Kind::Write),
     (7, Kind::Read),
     (6, Kind::Build),
@@ -29,6 +31,7 @@ enum Kind {
     Insert,
     Delete,
     LookUp,
+    LookUpBatch,
     Range,
     Step,
     Write,
@@ -86,6 +89,7 @@ impl Generator {
             Kind::LookUp => Call::LookUp {
                 key: self.key(&held, 1, random),
             },
+            Kind::LookUpBatch => look_up_batch(&held, random),
             Kind::Range => self.range(&held, random),
             Kind::Step => self.step(&held, random),
             Kind::Write => Call::Write {
@@ -208,6 +212,15 @@ pub fn load(order: u64, random: &mut Random) -> Call {
     let most = random.pick(&[1, 3, 20, 20, 100, 100, 500, 2_000]);
     let count = random.below(most + 1) as u16;
     Call::Load { order, seed, count }
+}
+
+/// A batch, now and then with a fault.
+fn look_up_batch(held: &[u64], random: &mut Random) -> Call {
+    let mut keys = random_batch(held, random);
+    if random.once_in(6) {
+        spoil_list(&mut keys, random);
+    }
+    Call::LookUpBatch { keys }
 }
 
 /// An end of a range: a held key or a neighbour of one, or any number.

@@ -2,6 +2,7 @@
 //! all that a call answers and all the memory that it was lent.
 
 pub mod archive;
+pub mod batches;
 pub mod call;
 pub mod case;
 pub mod generator;

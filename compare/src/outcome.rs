@@ -1,6 +1,7 @@
 //! What a call leaves behind, and how two such outcomes differ.
 
 use crate::call::{Call, Place};
+use btreap::Question;
 use std::fmt::Debug;
 
 /// The numbers of a reply. A refusal of 0 is acceptance.
@@ -17,6 +18,7 @@ pub struct Outcome {
     pub table: Vec<u64>,
     pub words: Vec<u64>,
     pub bytes: Vec<u8>,
+    pub questions: Vec<Question>,
     pub place: Option<Place>,
     /// Memory that the call was not to write and did.
     pub stray: Vec<&'static str>,
@@ -33,6 +35,7 @@ impl Outcome {
             table: table.to_vec(),
             words: call.output_words(),
             bytes: call.output_bytes(),
+            questions: call.questions(),
             place: call.place(),
             stray: vec![],
         }
@@ -79,6 +82,7 @@ fn memory_differences(archive: &Outcome, second: &Outcome) -> Vec<String> {
     found.extend(cells("table word", &archive.table, &second.table));
     found.extend(cells("output word", &archive.words, &second.words));
     found.extend(cells("output byte", &archive.bytes, &second.bytes));
+    found.extend(cells("question", &archive.questions, &second.questions));
     found.extend(one("place", &archive.place, &second.place));
     found.extend(one("memory written astray", &archive.stray, &second.stray));
     found

@@ -1,6 +1,7 @@
 //! Memory to lend, amid pages that are closed: whoever reads or writes these, or
 //! writes to what is lent only to be read, ends the process.
 
+use btreap::Question;
 use std::ffi::c_void;
 use std::mem::size_of_val;
 use std::ops::Range;
@@ -54,6 +55,7 @@ pub enum Access {
 pub trait Cell: Copy {}
 impl Cell for u64 {}
 impl Cell for u8 {}
+impl Cell for Question {}
 
 /// Some content in open pages of its own, as few as hold it.
 pub struct Pages<T> {
@@ -74,7 +76,8 @@ impl<T: Cell> Pages<T> {
         };
         let open = map(size);
         // SAFETY: both places are within the pages, which are ours; cells are
-        // aligned there, since a page is a whole number of them.
+        // aligned there, since a page and a cell are whole numbers of words, or
+        // cells are bytes.
         let start = unsafe {
             let paint = open.add(painted.start);
             ptr::copy_nonoverlapping(PAINT.as_ptr(), paint, painted.len());

@@ -2,6 +2,8 @@
 
 use crate::call::{Call, Place};
 use crate::outcome::{Outcome, Reply};
+use btreap::Question;
+use reference::batch;
 use reference::calls::{self, LengthReply, LookUpReply, PlainReply, RankReply, StepReply, REAL};
 
 /// Makes the call on a copy of the table.
@@ -16,6 +18,7 @@ pub fn run_second_program(call: &Call, table: &[u64]) -> Outcome {
         Call::Insert { key } => ranked(REAL.insert(&mut after.table, *key)),
         Call::Delete { key } => ranked(REAL.delete(&mut after.table, *key)),
         Call::LookUp { key } => found(REAL.look_up(table, *key)),
+        Call::LookUpBatch { .. } => look_up_batch(table, &mut after.questions),
         Call::Range { low, high, .. } => sized(REAL.range(table, *low, *high, &mut after.words)),
         Call::Step { place } => step(table, *place, &mut after),
         Call::Write { .. } => sized(REAL.write_image(table, &mut after.bytes)),
@@ -23,6 +26,20 @@ pub fn run_second_program(call: &Call, table: &[u64]) -> Outcome {
         Call::List { image, .. } => sized(REAL.list(image, &mut after.bytes)),
     };
     after
+}
+
+/// The second program has a record of its own for a question.
+fn look_up_batch(table: &[u64], questions: &mut [Question]) -> Reply {
+    let given = |&Question { key, held, rank }: &Question| batch::Question { key, held, rank };
+    let mut asked: Vec<batch::Question> = questions.iter().map(given).collect();
+    let reply = REAL.look_up_batch(table, &mut asked);
+    for (question, batch::Question { key, held, rank }) in questions.iter_mut().zip(asked) {
+        *question = Question { key, held, rank };
+    }
+    Reply {
+        refusal: reply.refusal,
+        numbers: vec![("size", reply.blocks)],
+    }
 }
 
 /// The mark is a number only in the archive's interface, where every number

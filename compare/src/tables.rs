@@ -35,6 +35,21 @@ pub fn listing_length(order: u64, keys: &[u64]) -> usize {
     listing::listing(&priority, &contents(order, keys)).len()
 }
 
+/// How many blocks an order and rising keys have, as their image says.
+pub fn blocks_of(order: u64, keys: &[u64]) -> u64 {
+    let image = image_of(order, keys);
+    u16::from_le_bytes([image[5], image[6]]).into()
+}
+
+/// The keys that a lookup compares in a table of an order and rising keys; here
+/// they rise too.
+pub fn path_of(order: u64, keys: &[u64], key: u64) -> Vec<u64> {
+    let shape = table::shape_of(&priority, &contents(order, keys));
+    let mut path = shape.path(key);
+    path.sort_unstable();
+    path
+}
+
 /// The keys in the slots, rising; zeros left out.
 pub fn keys_in(table: &[u64]) -> Vec<u64> {
     let slots = table.get(HEADER_WORDS..).unwrap_or(&[]).chunks(SLOT_WORDS);

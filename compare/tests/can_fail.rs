@@ -3,6 +3,7 @@
 
 mod common;
 
+use btreap::Question;
 use common::{accepted_calls, table, KEYS};
 use compare::archive::{run_archive, Empty};
 use compare::call::{Call, Place};
@@ -13,7 +14,7 @@ use compare::second_program::run_second_program;
 use compare::tables::listing_length;
 
 /// One of each kind that is refused, on a table that is not one.
-fn refused_calls() -> [Call; 11] {
+fn refused_calls() -> [Call; 12] {
     let mut calls = accepted_calls();
     calls[9] = Call::List {
         image: vec![0; 20],
@@ -91,8 +92,8 @@ fn each_wrong_number_of_a_reply_is_caught() {
             outcome.reply.numbers.push(("more", 0))
         });
     }
-    // Insert, delete, look-up, range, step, writing, listing, twice.
-    assert_eq!(fields, 2 * (1 + 1 + 5 + 1 + 2 + 1 + 1));
+    // Insert, delete, look-up, batch, range, step, writing, listing, twice.
+    assert_eq!(fields, 2 * (1 + 1 + 5 + 1 + 1 + 2 + 1 + 1));
 }
 
 #[test]
@@ -126,6 +127,41 @@ fn each_wrong_output_cell_is_caught_written_or_beyond() {
     assert_eq!(cells, [6, 400 + listing_length(3, &KEYS) + 4]);
     let last = |outcome: &mut Outcome| *outcome.bytes.last_mut().unwrap() ^= 1;
     caught(&Call::Write { room: 30 }, &table, last);
+}
+
+#[test]
+fn each_wrong_word_of_a_question_is_caught_filled_in_or_not() {
+    let table = table();
+    let call = Call::LookUpBatch {
+        keys: vec![3, 4, 21, u64::MAX],
+    };
+    let [outcome, _] = run_archive(&call, &table, Empty::Address);
+    let held: Vec<u64> = outcome.questions.iter().map(|q| q.held).collect();
+    assert_eq!(held, [1, 0, 1, 0]);
+    let changes: [fn(&mut Question); 3] =
+        [|q| q.key ^= 1 << 63, |q| q.held ^= 1, |q| q.rank ^= 1 << 40];
+    for line in 0..4 {
+        for change in changes {
+            let change = |outcome: &mut Outcome| change(&mut outcome.questions[line]);
+            caught(&call, &table, change);
+            caught(&call, &table[1..], change);
+        }
+    }
+    caught(&call, &table, |outcome| outcome.questions.truncate(3));
+}
+
+#[test]
+fn a_refused_batch_that_fills_in_is_caught_though_both_agree() {
+    let keys = vec![9, 8];
+    let call = Call::LookUpBatch { keys };
+    let before = Outcome::untouched(&call, &table());
+    let [refused, _] = run_archive(&call, &table(), Empty::Address);
+    assert_eq!(refused.reply.refusal, 5);
+    assert_eq!(refusal_faults(&before, &refused), [""; 0]);
+    let mut both = refused;
+    both.questions[1].held = 0;
+    assert_eq!(differences(&both, &both), [""; 0]);
+    assert_eq!(refusal_faults(&before, &both).len(), 1);
 }
 
 #[test]

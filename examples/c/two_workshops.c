@@ -52,6 +52,19 @@ static void print_keys(const uint64_t *table)
     printf("\n");
 }
 
+/* An order sheet names some fingerprints, rising: which of them are held? They are looked up together. */
+static void look_up_together(const uint64_t *table)
+{
+    struct btreap_question batch[] = { { .key = 8 }, { .key = 40 }, { .key = 41 }, { .key = 512 } };
+    size_t n = sizeof batch / sizeof batch[0];
+    struct btreap_sized met = btreap_lookup_batch(table, WORDS, batch, n);
+    accept("batch", met.refusal);
+    printf("batch:");
+    for (size_t i = 0; i < n; i++)
+        printf(" %" PRIu64 " held %" PRIu64 " rank %" PRIu64 ",", batch[i].key, batch[i].held, batch[i].rank);
+    printf(" blocks %" PRIu64 "\n", met.size);
+}
+
 /* Both run one load, in tables of different sizes, and compare images. */
 static void compare_loads(void)
 {
@@ -88,6 +101,7 @@ int main(void)
     accept("lookup", found.refusal);
     printf("512: held %" PRIu64 ", rank %" PRIu64 ", count %" PRIu64 ", leader %" PRIu64 ", blocks %" PRIu64 "\n", found.held, found.rank,
            found.count, found.leader, found.blocks);
+    look_up_together(first);
 
     accept("read", btreap_read(third, WORDS, one, sent.size));
     printf("read back: %s\n", memcmp(third, first, sizeof first) == 0 ? "yes" : "no");

@@ -1,4 +1,4 @@
-//! Document 01, section "Blocks", and the blocks that a lookup meets.
+//! Document 01, section "Blocks", and the blocks that one lookup or several meet.
 
 use crate::shape::{Node, Shape};
 use crate::LITERAL_LIMIT;
@@ -29,6 +29,16 @@ pub fn blocks_met(shape: &Shape, key: u64) -> u64 {
         blocks_met_by_definition(shape, key)
     } else {
         blocks_met_by_name(shape, key)
+    }
+}
+
+/// Document 02, N2: "the number of different blocks over all the search paths,
+/// each block reckoned once"
+pub fn blocks_met_by_all(shape: &Shape, keys: &[u64]) -> u64 {
+    if shape.nodes.len() <= LITERAL_LIMIT {
+        blocks_met_by_all_by_definition(shape, keys)
+    } else {
+        blocks_met_by_all_by_name(shape, keys)
     }
 }
 
@@ -98,6 +108,19 @@ pub fn blocks_met_by_definition(shape: &Shape, key: u64) -> u64 {
         .count() as u64
 }
 
+/// Counts the blocks that hold some key on some search path.
+pub fn blocks_met_by_all_by_definition(shape: &Shape, keys: &[u64]) -> u64 {
+    let paths: Vec<Vec<u64>> = keys.iter().map(|&key| shape.path(key)).collect();
+    blocks_by_definition(shape)
+        .iter()
+        .filter(|block| {
+            paths
+                .iter()
+                .any(|path| block.keys.iter().any(|u| path.contains(u)))
+        })
+        .count() as u64
+}
+
 // ---------------------------------------------------------------------------
 // The faster form: each key names its block
 
@@ -140,6 +163,20 @@ pub fn blocks_met_by_name(shape: &Shape, key: u64) -> u64 {
     };
     let names: BTreeSet<(u64, u64)> = shape
         .path(key)
+        .into_iter()
+        .map(|u| name(shape, shape.node(u).unwrap(), k))
+        .collect();
+    names.len() as u64
+}
+
+/// The same number, by the different names of the keys that are on some path.
+pub fn blocks_met_by_all_by_name(shape: &Shape, keys: &[u64]) -> u64 {
+    let k = match shape.root_rank() {
+        Some(k) => k,
+        None => return 0,
+    };
+    let compared: BTreeSet<u64> = keys.iter().flat_map(|&key| shape.path(key)).collect();
+    let names: BTreeSet<(u64, u64)> = compared
         .into_iter()
         .map(|u| name(shape, shape.node(u).unwrap(), k))
         .collect();

@@ -1,5 +1,5 @@
 //! The calls of document 01 and the load of document 02, each with its
-//! refusals. "A refusal returns its number, all other numbers zero, and changes
+//! refusals; document 02's batch is in [`crate::batch`]. "A refusal returns its number, all other numbers zero, and changes
 //! no lent memory, the place included. The lowest number that applies is
 //! returned."
 
@@ -19,7 +19,8 @@ pub const ORDER: u64 = 2;
 pub const KEY_ZERO: u64 = 3;
 /// 4. Low above high.
 pub const LOW_ABOVE_HIGH: u64 = 4;
-/// 5. The build list is not strictly rising or has a zero.
+/// 5. The build list is not strictly rising or has a zero; "5 also means a sheet
+///    that does not rise or has a zero".
 pub const NOT_RISING: u64 = 5;
 /// 6. The image is not one that the writer makes for any order and any set of
 ///    at most 4,096 keys.
@@ -126,12 +127,12 @@ pub(crate) fn refuse_if(condition: bool, refusal: u64) -> Outcome<()> {
 }
 
 /// M, or refusal 1.
-fn slots(table: &[u64]) -> Outcome<usize> {
+pub(crate) fn slots(table: &[u64]) -> Outcome<usize> {
     slots_of_length(table.len()).ok_or(TABLE_LENGTH)
 }
 
 /// Whether the list is strictly rising and without zero.
-fn is_rising(list: &[u64]) -> bool {
+pub(crate) fn is_rising(list: &[u64]) -> bool {
     list.windows(2).all(|pair| pair[0] < pair[1]) && !list.contains(&0)
 }
 
@@ -142,7 +143,7 @@ impl Index<'_> {
     }
 
     /// The contents, or refusal 7.
-    fn contents(&self, table: &[u64]) -> Outcome<Contents> {
+    pub(crate) fn contents(&self, table: &[u64]) -> Outcome<Contents> {
         self.sound(table).ok_or(UNSOUND)
     }
 

@@ -1,10 +1,11 @@
-//! The second program: the index of document 01 with the load of document 02,
-//! written from these documents alone. Slow and literal; it is there to be
+//! The second program: the index of document 01 with the load and the batch of
+//! document 02, written from these documents alone. Slow and literal; it is there to be
 //! compared with.
 //!
 //! The priority is a parameter of every definition, so that the document's
 //! examples, which write their own priorities, can be computed too.
 
+pub mod batch;
 pub mod blocks;
 pub mod calls;
 pub mod fast;

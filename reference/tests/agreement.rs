@@ -5,7 +5,8 @@ mod common;
 
 use common::Random;
 use reference::blocks::{
-    blocks_by_definition, blocks_by_name, blocks_met_by_definition, blocks_met_by_name,
+    blocks_by_definition, blocks_by_name, blocks_met_by_all_by_definition,
+    blocks_met_by_all_by_name, blocks_met_by_definition, blocks_met_by_name,
 };
 use reference::priority::{entries, priority, Priority};
 use reference::shape::{shape_by_definition, shape_on_one_treap};
@@ -20,10 +21,19 @@ fn forms_agree(order: u64, keys: &[u64], priority: Priority) {
 
     let treap = treap(&rising);
     let near = |key: &u64| [*key, key.wrapping_add(1), key - 1];
-    for key in keys.iter().flat_map(near).filter(|&key| key != 0) {
+    let asked: Vec<u64> = keys.iter().flat_map(near).filter(|&key| key != 0).collect();
+    for &key in &asked {
         assert_eq!(shape.path(key), path(&treap, key));
         let met = blocks_met_by_definition(&shape, key);
         assert_eq!(met, blocks_met_by_name(&shape, key));
+    }
+    for batch in [
+        &asked[..],
+        &asked[asked.len() / 2..],
+        &keys[keys.len() / 3..],
+    ] {
+        let met = blocks_met_by_all_by_definition(&shape, batch);
+        assert_eq!(met, blocks_met_by_all_by_name(&shape, batch));
     }
 
     // Every key is in one block; "The root block holds at most 2α−1 keys,

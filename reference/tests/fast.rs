@@ -5,6 +5,7 @@
 mod common;
 
 use common::Random;
+use reference::batch::Question;
 use reference::calls::{Place, REAL};
 use reference::fast;
 use reference::image::image;
@@ -85,6 +86,22 @@ fn look_up(table: &[u64], key: u64) -> u64 {
     reply.refusal
 }
 
+fn look_up_batch(table: &[u64], keys: &[u64]) -> u64 {
+    let question = |&key: &u64| Question {
+        key,
+        held: 0xEEEE,
+        rank: !key,
+    };
+    let questions: Vec<Question> = keys.iter().map(question).collect();
+    let (reply, filled) = after(&questions, |q| REAL.look_up_batch(table, q));
+    assert_eq!(
+        after(&questions, |q| fast::look_up_batch(table, q)),
+        (reply, filled),
+        "batch {keys:?}"
+    );
+    reply.refusal
+}
+
 fn range(table: &[u64], low: u64, high: u64, room: usize) -> u64 {
     let output = vec![0xEEEE; room];
     let (reply, words) = after(&output, |out| REAL.range(table, low, high, out));
@@ -147,7 +164,7 @@ fn steps(table: &[u64], mut place: Place) {
 fn play(random: &mut Random, table: &mut Vec<u64>, slots: u64) {
     let key = [0, random.key(2 * slots + 2), random.key(2 * slots + 2)][random.below(3) as usize];
     let other = random.key(2 * slots + 2);
-    match random.below(21) {
+    match random.below(23) {
         0..=5 => drop(insert(table, key)),
         6..=9 => drop(delete(table, key)),
         10 | 11 => drop(look_up(table, key)),
@@ -176,6 +193,12 @@ fn play(random: &mut Random, table: &mut Vec<u64>, slots: u64) {
             list(&bytes, random.below(3_000) as usize);
         }
         19 => drop(set_up(table, 2 + random.below(255))),
+        20 => drop(look_up_batch(table, &random.keys(2 * slots))),
+        21 => {
+            let mut keys = random.keys(slots);
+            random.shuffle(&mut keys);
+            look_up_batch(table, &keys);
+        }
         _ => {
             let (order, count) = (2 + random.below(5), random.below(8 * slots));
             load(table, order, random.next(), count as u16);
@@ -222,6 +245,10 @@ fn all_sets_over_a_small_universe() {
             .for_each(|&key| assert_eq!(insert(&mut table, key), 0));
         (1..=8).for_each(|key| assert_eq!(look_up(&table, key), 0));
         (0..=8).for_each(|low| assert_eq!(range(&table, low, 8, 7), 0));
+        for batch in 0..256u64 {
+            let asked: Vec<u64> = (1..=8).filter(|key| batch >> (key - 1) & 1 == 1).collect();
+            assert_eq!(look_up_batch(&table, &asked), 0);
+        }
         random.shuffle(&mut keys);
         keys.iter()
             .for_each(|&key| assert_eq!(delete(&mut table, key), 0));
@@ -322,6 +349,9 @@ fn great_table(slots: usize, order: u64, keys: &[u64]) {
         assert_eq!(delete(&mut table, key), 0);
         assert_eq!(insert(&mut table, key), 0);
     }
+    assert_eq!(look_up_batch(&table, keys), 0);
+    let few: Vec<u64> = keys.iter().step_by(40).map(|key| key - 1).collect();
+    assert_eq!(look_up_batch(&table, &few), 0);
     assert_eq!(range(&table, 0, u64::MAX, keys.len()), 0);
     assert_eq!(range(&table, keys[3], keys[9], 7), 0);
     step(&table, Place::new(keys[5] + 1, u64::MAX));
@@ -338,6 +368,7 @@ fn great_table(slots: usize, order: u64, keys: &[u64]) {
 /// One call of each kind that judges the table.
 fn judged(table: &[u64]) -> u64 {
     let refusal = look_up(table, 5);
+    look_up_batch(table, &[1, 5, 6, u64::MAX]);
     range(table, 0, u64::MAX, table.len());
     step(table, Place::WHOLE);
     step(table, Place::SPENT);
@@ -513,6 +544,7 @@ fn every_refusal() {
         assert_eq!(insert(&mut wrong, 0), 1);
         assert_eq!(delete(&mut wrong, 0), 1);
         assert_eq!(look_up(&wrong, 0), 1);
+        assert_eq!(look_up_batch(&wrong, &[0]), 1);
         assert_eq!(range(&wrong, 2, 1, 0), 1);
         assert_eq!(step(&wrong, Place::SPENT).0, 1);
         assert_eq!(write(&wrong, 0).0, 1);
@@ -536,10 +568,12 @@ fn every_refusal() {
         &[1, 2, 3, 3],
     ] {
         assert_eq!(build(&mut table, 3, list), 5);
+        assert_eq!(look_up_batch(&table, list), 5);
     }
     assert_eq!(build(&mut table, 3, &[1, 2, 3]), 10);
     assert_eq!(read(&mut table, &[]), 6);
     assert_eq!(judged(&table), 7);
+    assert_eq!(look_up_batch(&table, &[]), 7);
 }
 
 #[test]

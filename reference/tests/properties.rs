@@ -4,6 +4,7 @@
 mod common;
 
 use common::Random;
+use reference::batch::Question;
 use reference::calls::{Index, LookUpReply, Place, REAL};
 use reference::image::image;
 use reference::load::end_set;
@@ -252,7 +253,7 @@ fn play(
     book: &mut BTreeSet<u64>,
 ) {
     let key = random.below(16);
-    match random.below(13) {
+    match random.below(14) {
         0..=4 => {
             let expected = match () {
                 _ if key == 0 => 3,
@@ -306,6 +307,7 @@ fn play(
             }
         }
         11 => play_load(random, index, table, m, order, book),
+        12 => play_batch(random, index, table, book),
         _ => {
             let keys = random.keys(10);
             let read = Contents { order: 4, keys };
@@ -337,6 +339,26 @@ fn play_load(
         *order = new_order;
         *book = end_set(m, seed, count);
     }
+}
+
+/// A batch, which does not rise now and then.
+fn play_batch(random: &mut Random, index: &Index, table: &[u64], book: &BTreeSet<u64>) {
+    let question = |key| Question {
+        key,
+        held: 7,
+        rank: 7,
+    };
+    let mut questions: Vec<Question> = random.keys(8).into_iter().map(question).collect();
+    let before = questions.clone();
+    assert_eq!(index.look_up_batch(table, &mut questions).refusal, 0);
+    for question in &questions {
+        assert_eq!(question.held == 1, book.contains(&question.key));
+    }
+    questions.extend(before.first());
+    let twice = questions.clone();
+    let refusal = if before.is_empty() { 0 } else { 5 };
+    assert_eq!(index.look_up_batch(table, &mut questions).refusal, refusal);
+    assert_eq!(questions, twice);
 }
 
 /// The range had key by key.

@@ -13,6 +13,8 @@ use std::fmt;
 
 pub mod sys;
 
+pub use sys::Question;
+
 /// The most slots that a table has.
 pub const MOST_SLOTS: usize = 4096;
 
@@ -45,7 +47,7 @@ const REFUSALS: [(Refusal, &str); 11] = [
     (Refusal::WrongOrder, "the order is outside 3 to 255"),
     (Refusal::ZeroKey, "the key is zero"),
     (Refusal::LowAboveHigh, "low is above high"),
-    (Refusal::NotRising, "the list does not rise strictly, or has a zero"),
+    (Refusal::NotRising, "the keys do not rise strictly, or one is zero"),
     (Refusal::NotAnImage, "the bytes are no image"),
     (Refusal::NotSound, "the table is not sound"),
     (Refusal::KeyHeld, "the key is held"),
@@ -87,6 +89,18 @@ pub enum Found {
 impl Found {
     pub fn is_held(self) -> bool {
         matches!(self, Found::Held { .. })
+    }
+}
+
+impl Question {
+    /// The question for a key, to be answered by [`look_up_batch`].
+    pub const fn new(key: u64) -> Question {
+        Question { key, held: 0, rank: 0 }
+    }
+
+    /// Whether the answer is that the key is held.
+    pub fn is_held(self) -> bool {
+        self.held != 0
     }
 }
 
@@ -159,6 +173,25 @@ pub fn look_up(table: &[u64], key: u64) -> Result<Found, Refusal> {
         _ => Found::Held { rank, count, leader, blocks },
     };
     unless_refused(reply.refusal, found)
+}
+
+/// Look the keys of a batch up together, such as those of one order sheet; how many different blocks hold the keys that were compared on
+/// all the ways down, each block counted once. The keys rise strictly, and none is zero. Each question then has `held` and `rank` as
+/// [`look_up`] says them of its key. Refusals: 1, 5, 7; every question is then as it was.
+///
+/// ```
+/// use btreap::Question;
+/// let mut table = vec![0; btreap::table_words(64)];
+/// btreap::build(&mut table, 8, &[7, 42])?;
+/// let mut batch = [7, 8, 42].map(Question::new);
+/// assert_eq!(btreap::look_up_batch(&table, &mut batch), Ok(1));
+/// assert_eq!(batch.map(Question::is_held), [true, false, true]);
+/// # Ok::<(), btreap::Refusal>(())
+/// ```
+pub fn look_up_batch(table: &[u64], questions: &mut [Question]) -> Result<u64, Refusal> {
+    // SAFETY: as in `build`; a question is laid out as the header declares it.
+    let reply = unsafe { sys::btreap_lookup_batch(table.as_ptr(), table.len(), questions.as_mut_ptr(), questions.len()) };
+    unless_refused(reply.refusal, reply.size)
 }
 
 /// Write at the start of `out` the held keys from `low` to `high`, both included, rising; how many. Refusals: 1, 4, 7, 11.

@@ -20,7 +20,7 @@ pub struct FoundReply {
     pub blocks: u64,
 }
 
-/// The reply of a range, a writing or a listing.
+/// The reply of a batch, a range, a writing or a listing.
 #[repr(C)]
 #[derive(Clone, Copy, Debug, PartialEq, Eq)]
 pub struct SizedReply {
@@ -40,6 +40,17 @@ pub struct SteppedReply {
     pub done: u64,
 }
 
+/// A line of a batch: the key to look up, and the places for what is said of it.
+#[repr(C)]
+#[derive(Clone, Copy, Debug, PartialEq, Eq)]
+pub struct Question {
+    pub key: u64,
+    /// 1 for a held key, 0 for an absent one.
+    pub held: u64,
+    /// The rank of a held key, 0 for an absent one.
+    pub rank: u64,
+}
+
 extern "C" {
     pub fn btreap_set_up(table: *mut u64, words: usize, order: u64) -> u64;
     pub fn btreap_build(table: *mut u64, words: usize, order: u64, keys: *const u64, n: usize) -> u64;
@@ -47,6 +58,7 @@ extern "C" {
     pub fn btreap_insert(table: *mut u64, words: usize, key: u64) -> RankedReply;
     pub fn btreap_delete(table: *mut u64, words: usize, key: u64) -> RankedReply;
     pub fn btreap_lookup(table: *const u64, words: usize, key: u64) -> FoundReply;
+    pub fn btreap_lookup_batch(table: *const u64, words: usize, questions: *mut Question, n: usize) -> SizedReply;
     pub fn btreap_range(table: *const u64, words: usize, low: u64, high: u64, out: *mut u64, out_words: usize) -> SizedReply;
     pub fn btreap_step(table: *const u64, words: usize, next: u64, high: u64, done: u64) -> SteppedReply;
     pub fn btreap_write(table: *const u64, words: usize, out: *mut u8, out_bytes: usize) -> SizedReply;

@@ -1,26 +1,17 @@
 //! The wrapper says of each call what the library replies.
 
+mod common;
+
 use btreap::{Found, Place, Refusal};
+use common::{table_of, unsound};
 use std::collections::BTreeSet;
 
 const SLOTS: usize = 3;
 
-fn table_of(keys: &[u64]) -> Vec<u64> {
-    let mut table = vec![0; btreap::table_words(SLOTS)];
-    btreap::build(&mut table, 3, keys).unwrap();
-    table
-}
-
-fn unsound() -> Vec<u64> {
-    let mut table = table_of(&[5, 7]);
-    table[1] += 1;
-    table
-}
-
 #[test]
 fn each_refusal_has_its_number() {
-    let mut table = table_of(&[5, 7]);
-    let mut full = table_of(&[5, 7, 9]);
+    let mut table = table_of(SLOTS, &[5, 7]);
+    let mut full = table_of(SLOTS, &[5, 7, 9]);
     let refused = [
         btreap::set_up(&mut table[1..], 3).unwrap_err(),
         btreap::set_up(&mut table, 2).unwrap_err(),
@@ -28,7 +19,7 @@ fn each_refusal_has_its_number() {
         btreap::range(&table, 2, 1, &mut []).unwrap_err(),
         btreap::build(&mut table, 3, &[7, 5]).unwrap_err(),
         btreap::read(&mut table, b"no image").unwrap_err(),
-        btreap::look_up(&unsound(), 5).unwrap_err(),
+        btreap::look_up(&unsound(SLOTS), 5).unwrap_err(),
         btreap::insert(&mut table, 5).unwrap_err(),
         btreap::delete(&mut table, 6).unwrap_err(),
         btreap::insert(&mut full, 6).unwrap_err(),
@@ -38,8 +29,8 @@ fn each_refusal_has_its_number() {
     assert_eq!(numbers, (1..=11).collect::<Vec<u64>>());
     assert_eq!(refused[4], Refusal::NotRising);
     assert_eq!(refused[10].to_string(), "the output is too short");
-    assert_eq!(table, table_of(&[5, 7]));
-    assert_eq!(full, table_of(&[5, 7, 9]));
+    assert_eq!(table, table_of(SLOTS, &[5, 7]));
+    assert_eq!(full, table_of(SLOTS, &[5, 7, 9]));
 }
 
 /// All keys of a table.
@@ -90,7 +81,7 @@ fn a_load_over_any_words_is_a_build_of_what_it_leaves() {
 
 #[test]
 fn a_load_of_nothing_leaves_the_blank_table() {
-    let (mut loaded, mut blank) = (table_of(&[5, 7]), unsound());
+    let (mut loaded, mut blank) = (table_of(SLOTS, &[5, 7]), unsound(SLOTS));
     btreap::load(&mut loaded, 255, 12345, 0).unwrap();
     btreap::set_up(&mut blank, 255).unwrap();
     assert_eq!(loaded, blank);
@@ -98,19 +89,19 @@ fn a_load_of_nothing_leaves_the_blank_table() {
 
 #[test]
 fn a_refused_load_leaves_the_words() {
-    let mut table = unsound();
+    let mut table = unsound(SLOTS);
     for order in [0, 2, 256, u64::MAX] {
         assert_eq!(btreap::load(&mut table[1..], order, 1, 10), Err(Refusal::WrongLength));
         assert_eq!(btreap::load(&mut table, order, 1, 10), Err(Refusal::WrongOrder));
     }
     assert_eq!(btreap::load(&mut table[1..], 3, 1, 10), Err(Refusal::WrongLength));
     assert_eq!(btreap::load(&mut [], 3, 1, 0), Err(Refusal::WrongLength));
-    assert_eq!(table, unsound());
+    assert_eq!(table, unsound(SLOTS));
 }
 
 #[test]
 fn a_lookup_tells_held_from_absent() {
-    let table = table_of(&[5]);
+    let table = table_of(SLOTS, &[5]);
     assert_eq!(btreap::look_up(&table, 5), Ok(Found::Held { rank: 0, count: 1, leader: 0, blocks: 1 }));
     assert_eq!(btreap::look_up(&table, 6), Ok(Found::Absent { blocks: 1 }));
 }
@@ -118,13 +109,13 @@ fn a_lookup_tells_held_from_absent() {
 #[test]
 fn a_range_is_at_the_start_of_the_output() {
     let mut out = [99; 4];
-    assert_eq!(btreap::range(&table_of(&[5, 7, 9]), 6, 9, &mut out), Ok(2));
+    assert_eq!(btreap::range(&table_of(SLOTS, &[5, 7, 9]), 6, 9, &mut out), Ok(2));
     assert_eq!(out, [7, 9, 99, 99]);
 }
 
 #[test]
 fn steps_yield_the_range_and_then_end() {
-    let table = table_of(&[5, 7, u64::MAX]);
+    let table = table_of(SLOTS, &[5, 7, u64::MAX]);
     let mut place = Place::new(6, u64::MAX);
     assert_eq!(btreap::step(&table, &mut place), Ok(Some(7)));
     assert_eq!(place, Place::new(8, u64::MAX));
@@ -137,14 +128,14 @@ fn steps_yield_the_range_and_then_end() {
 fn a_refused_step_leaves_its_place() {
     for place in [Place::ALL, Place::SPENT, Place::new(3, 9)] {
         let mut after = place;
-        assert_eq!(btreap::step(&unsound(), &mut after), Err(Refusal::NotSound));
+        assert_eq!(btreap::step(&unsound(SLOTS), &mut after), Err(Refusal::NotSound));
         assert_eq!(after, place);
     }
 }
 
 #[test]
 fn an_image_comes_back() {
-    let table = table_of(&[5, 7]);
+    let table = table_of(SLOTS, &[5, 7]);
     let mut image = vec![0; btreap::LONGEST_IMAGE];
     let size = btreap::write(&table, &mut image).unwrap();
     let mut other = vec![7; btreap::table_words(SLOTS)];

@@ -2,6 +2,7 @@
 //! call of each kind that asks for soundness.
 
 use super::{exercise, Section};
+use crate::batches::random_batch;
 use crate::call::{Call, Place};
 use crate::case::{Case, Tally};
 use crate::keys::{keys_with_home, Chain};
@@ -145,7 +146,7 @@ pub fn each_call(case: &mut Case, keys: &[u64], damaged: &[u64]) {
 
 /// One call of each kind that asks for soundness, the keys being held in the
 /// table as it was.
-fn calls(keys: &[u64], random: &mut Random) -> [Call; 6] {
+fn calls(keys: &[u64], random: &mut Random) -> [Call; 7] {
     let held = match keys {
         [] => 1,
         _ => random.pick(keys),
@@ -157,6 +158,9 @@ fn calls(keys: &[u64], random: &mut Random) -> [Call; 6] {
         },
         Call::Delete { key: held },
         Call::LookUp { key: held },
+        Call::LookUpBatch {
+            keys: random_batch(keys, random),
+        },
         Call::Range {
             low: next,
             high: u64::MAX,
@@ -179,7 +183,8 @@ fn large(case: &mut Case, slots: usize, number: usize, damages: usize) {
     let table = case.table.clone();
     for _ in 0..damages {
         let word = case.random.below(table.len());
-        let call = calls(&keys, &mut case.random)[case.random.below(6)].clone();
+        let calls = calls(&keys, &mut case.random);
+        let call = calls[case.random.below(calls.len())].clone();
         case.table.clone_from(&table);
         case.table[word] = match case.random.below(4) {
             0 => case.random.pick(&table),

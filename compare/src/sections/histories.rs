@@ -1,4 +1,4 @@
-//! Random histories: a set-up or a load over any words, then calls of all eleven
+//! Random histories: a set-up or a load over any words, then calls of all twelve
 //! kinds on one table.
 
 use super::{exercise, Section, SLOTS};

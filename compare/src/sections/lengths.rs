@@ -39,7 +39,7 @@ fn each_call(case: &mut Case, length: usize) {
 }
 
 /// One of each kind that a blank table of any length accepts.
-fn sensible_calls() -> [Call; 9] {
+fn sensible_calls() -> [Call; 10] {
     [
         Call::SetUp { order: 255 },
         Call::Build {
@@ -53,6 +53,9 @@ fn sensible_calls() -> [Call; 9] {
         },
         Call::Insert { key: u64::MAX },
         Call::LookUp { key: 1 },
+        Call::LookUpBatch {
+            keys: vec![1, 7, u64::MAX],
+        },
         Call::Range {
             low: 0,
             high: u64::MAX,
@@ -76,6 +79,7 @@ fn nothing(case: &mut Case, empty: Empty) {
         case.refused(call, 1);
     }
     case.refused(Call::Delete { key: 5 }, 1);
+    case.refused(Call::LookUpBatch { keys: vec![] }, 1);
     nothing_for_a_table(case, &[]);
     nothing_for_a_table(case, &[5, 6]);
     let (order, list) = (3, vec![]);
@@ -86,7 +90,7 @@ fn nothing(case: &mut Case, empty: Empty) {
     case.refused(Call::List { image, room: 0 }, 11);
 }
 
-/// Ranges and images that are empty or have nowhere to go.
+/// Batches, ranges and images that are empty or have nowhere to go.
 fn nothing_for_a_table(case: &mut Case, keys: &[u64]) {
     case.lend_sound(2, 3, keys);
     let nowhere = if keys.is_empty() { 0 } else { 11 };
@@ -94,6 +98,7 @@ fn nothing_for_a_table(case: &mut Case, keys: &[u64]) {
         let room = 0;
         case.refused(Call::Range { low, high, room }, refusal);
     }
+    case.refused(Call::LookUpBatch { keys: vec![] }, 0);
     case.refused(Call::Write { room: 0 }, 11);
     case.refused(Call::Read { image: vec![] }, 6);
 }

@@ -1,4 +1,4 @@
-//! Lists, images and outputs far longer than any table's, whose lengths would
+//! Lists, batches, images and outputs far longer than any table's, whose lengths would
 //! look right if they were cut to fewer bits.
 
 use super::{exercise, Section};
@@ -14,6 +14,7 @@ const MORE_THAN_TWO_BYTES: u64 = 65_536;
 fn run(tally: &mut Tally) {
     for number in [4097, 5000, MORE_THAN_TWO_BYTES, MORE_THAN_TWO_BYTES + 1] {
         tally.case(|case| long_list(case, number));
+        tally.case(|case| long_batch(case, number));
         tally.case(|case| long_image(case, number));
     }
     for slots in [1, 7, 4096] {
@@ -34,6 +35,22 @@ fn long_list(case: &mut Case, number: u64) {
             list = rising.clone();
             list[place] = key;
             case.refused(Call::Build { order, list }, 5);
+        }
+    }
+}
+
+/// As many lines are no fault; one at either end is found.
+fn long_batch(case: &mut Case, number: u64) {
+    let rising: Vec<u64> = (1..=number).collect();
+    let last = rising.len() - 1;
+    for (slots, held) in [(1, vec![]), (64, vec![1, 77, number])] {
+        case.lend_sound(slots, 3, &held);
+        let mut keys = rising.clone();
+        case.refused(Call::LookUpBatch { keys }, 0);
+        for (place, key) in [(0, 0), (last, 0), (last, number - 1), (last / 2, 1)] {
+            keys = rising.clone();
+            keys[place] = key;
+            case.refused(Call::LookUpBatch { keys }, 5);
         }
     }
 }

@@ -2,6 +2,7 @@
 
 use crate::case::Tally;
 
+mod batches;
 mod chains;
 mod damaged_images;
 mod damaged_tables;
@@ -32,8 +33,9 @@ pub struct Section {
 }
 
 /// All sections; the longest first, so that threads finish together.
-pub const SECTIONS: [Section; 19] = [
+pub const SECTIONS: [Section; 20] = [
     loads::SECTION,
+    batches::SECTION,
     histories::SECTION,
     sets::SECTION,
     chains::SECTION,

@@ -63,7 +63,7 @@ struct Kind {
     call: fn(&Faults) -> Call,
 }
 
-const KINDS: [Kind; 11] = [
+const KINDS: [Kind; 12] = [
     Kind {
         refusals: &[1, 2],
         call: set_up,
@@ -79,6 +79,10 @@ const KINDS: [Kind; 11] = [
     Kind {
         refusals: &[1, 3, 7],
         call: look_up,
+    },
+    Kind {
+        refusals: &[1, 5, 7],
+        call: look_up_batch,
     },
     Kind {
         refusals: &[1, 4, 7, 11],
@@ -199,6 +203,15 @@ fn delete(faults: &Faults) -> Call {
 fn look_up(faults: &Faults) -> Call {
     let key = faults.choose(3, 0, faults.pick(&[HELD, ABSENT]));
     Call::LookUp { key }
+}
+
+fn look_up_batch(faults: &Faults) -> Call {
+    let rising = [&[][..], &[HELD], &FULL, &TOO_MANY, &[1, ABSENT, u64::MAX]];
+    let mut keys = faults.pick(&rising).to_vec();
+    if faults.has(5) {
+        spoil_list(&mut keys, &mut Random::new(faults.way as u64));
+    }
+    Call::LookUpBatch { keys }
 }
 
 fn range(faults: &Faults) -> Call {

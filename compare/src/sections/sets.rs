@@ -1,6 +1,7 @@
 //! Random sets: at few slots with every order, at many with some.
 
 use super::{exercise, Section, SLOTS};
+use crate::batches::random_batch;
 use crate::call::{Call, Place};
 use crate::case::{Case, Tally};
 use crate::generator::room;
@@ -33,9 +34,11 @@ fn run(tally: &mut Tally) {
     }
 }
 
-/// Look-ups, ranges and steps with held keys and others.
+/// Look-ups, batches, ranges and steps with held keys and others.
 fn questions(case: &mut Case, keys: &[u64]) {
     for _ in 0..3 {
+        let batch = random_batch(keys, &mut case.random);
+        case.refused(Call::LookUpBatch { keys: batch }, 0);
         let key = case.random.key(2 * keys.len() + 3);
         case.call(Call::LookUp { key });
         if !keys.is_empty() {

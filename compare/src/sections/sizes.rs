@@ -3,6 +3,7 @@
 //! large ones apart, this is where it might go wrong.
 
 use super::{exercise, Section};
+use crate::batches::with_neighbours;
 use crate::call::{Call, Place};
 use crate::case::{Case, Tally};
 use crate::tables::{image_of, listing_length};
@@ -42,6 +43,8 @@ fn each_call(case: &mut Case, slots: usize, number: usize) {
     case.refused(Call::Insert { key: fresh }, refusal);
     case.call(Call::Delete { key: fresh });
     exercise::look_up(case, &[fresh]);
+    let batch = with_neighbours(&keys);
+    case.refused(Call::LookUpBatch { keys: batch }, 0);
     if number > 0 {
         let held = case.random.pick(&keys);
         exercise::look_up(case, &[held]);

@@ -10,7 +10,7 @@ pub fn table() -> Vec<u64> {
 }
 
 /// One of each kind that is accepted, outputs longer than needed.
-pub fn accepted_calls() -> [Call; 11] {
+pub fn accepted_calls() -> [Call; 12] {
     let image = image_of(3, &KEYS);
     [
         Call::SetUp { order: 9 },
@@ -41,6 +41,9 @@ pub fn accepted_calls() -> [Call; 11] {
             order: 5,
             seed: 2,
             count: 30,
+        },
+        Call::LookUpBatch {
+            keys: vec![3, 4, 21, u64::MAX],
         },
     ]
 }

@@ -1,6 +1,6 @@
 //! Two workshops keep the same fingerprints, reached in different ways, and compare images.
 
-use btreap::{Found, Place, Refusal};
+use btreap::{Found, Place, Question, Refusal};
 
 const SLOTS: usize = 64;
 
@@ -46,6 +46,18 @@ fn yes_or_no(answer: bool) -> &'static str {
     }
 }
 
+/// An order sheet names some fingerprints, rising: which of them are held? They are looked up together.
+fn look_up_together(table: &[u64]) -> Result<(), Refusal> {
+    let mut batch = [8, 40, 41, 512].map(Question::new);
+    let blocks = btreap::look_up_batch(table, &mut batch)?;
+    print!("batch:");
+    for Question { key, held, rank } in batch {
+        print!(" {key} held {held} rank {rank},");
+    }
+    println!(" blocks {blocks}");
+    Ok(())
+}
+
 /// Both run one load, in tables of different sizes, and compare images.
 fn compare_loads() -> Result<(), Refusal> {
     let run = |slots| {
@@ -75,6 +87,7 @@ fn main() -> Result<(), Refusal> {
     if let Found::Held { rank, count, leader, blocks } = btreap::look_up(&first, 512)? {
         println!("512: held 1, rank {rank}, count {count}, leader {leader}, blocks {blocks}");
     }
+    look_up_together(&first)?;
 
     btreap::read(&mut third, &sent)?;
     println!("read back: {}", yes_or_no(third == first));

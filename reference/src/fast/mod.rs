@@ -6,6 +6,7 @@
 //! Only the real priority is served. No recursion; room to work in is taken from
 //! the heap.
 
+mod batch;
 mod edit;
 mod finder;
 mod fresh;
@@ -19,6 +20,7 @@ mod node;
 mod placed;
 mod record;
 
+use crate::batch::{batched, BatchReply, Question};
 use crate::calls::*;
 use crate::is_order;
 use crate::load::operations;
@@ -116,6 +118,17 @@ fn try_look_up(table: &[u64], key: u64) -> Outcome<LookUpReply> {
     refuse_if(key == 0, KEY_ZERO)?;
     let judged = sound(table)?;
     Ok(judged.look_up(&judged, key))
+}
+
+/// "the checks are 1, 5, 7"
+pub fn look_up_batch(table: &[u64], questions: &mut [Question]) -> BatchReply {
+    batched(try_look_up_batch(table, questions))
+}
+
+fn try_look_up_batch(table: &[u64], questions: &mut [Question]) -> Outcome<u64> {
+    length_of(table)?;
+    refuse_if(!batch::rises(questions), NOT_RISING)?;
+    Ok(batch::answer(&sound(table)?, questions))
 }
 
 /// "range 1, 4, 7, 11"
