@@ -1,6 +1,6 @@
-// Runs the calls: first on document 01's figures, then loads, then a session on three slots in which a range is read at once and key by key
-// and an image is written, read and listed, and last over words that are no table and a table that is not sound. Every refusal of every call
-// is met.
+// Runs the calls: first on document 01's figures, then loads, then a session on three slots in which keys are looked up alone and together, a
+// range is read at once and key by key and an image is written, read and listed, and last over words that are no table and a table that is not
+// sound. Every refusal of every call is met.
 use index::Place;
 
 mod calls;

@@ -1,4 +1,5 @@
--- The structure theorems of the treap, one subject a file. They need an order of at least 2 and rising keys, no more.
+-- The structure theorems of the treap, one subject a file. They need an order of at least 2 and rising keys, no more; `Children`, `Entrances` and
+-- `MetBetween` also that no key is zero.
 pub mod Outranking
 pub mod Shape
 pub mod Split
