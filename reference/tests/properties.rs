@@ -306,7 +306,11 @@ fn play(
                 *book = keys.into_iter().collect();
             }
         }
-        11 => play_load(random, index, table, m, order, book),
+        11 => {
+            if let Some(loaded) = play_load(random, index, table, m) {
+                (*order, *book) = loaded;
+            }
+        }
         12 => play_batch(random, index, table, book),
         _ => {
             let keys = random.keys(10);
@@ -322,23 +326,19 @@ fn play(
     }
 }
 
-/// A load, of an order that is none now and then.
+/// A load, of an order that is none now and then; the order and the set that an
+/// accepted one leaves.
 fn play_load(
     random: &mut Random,
     index: &Index,
     table: &mut [u64],
     m: usize,
-    order: &mut u64,
-    book: &mut BTreeSet<u64>,
-) {
+) -> Option<(u64, BTreeSet<u64>)> {
     let (seed, count) = (random.next(), random.below(40) as u16);
-    let new_order = 2 + random.below(3);
-    let expected = if new_order < 3 { 2 } else { 0 };
-    assert_eq!(index.load(table, new_order, seed, count).refusal, expected);
-    if expected == 0 {
-        *order = new_order;
-        *book = end_set(m, seed, count);
-    }
+    let order = 2 + random.below(3);
+    let expected = if order < 3 { 2 } else { 0 };
+    assert_eq!(index.load(table, order, seed, count).refusal, expected);
+    Some((order, end_set(m, seed, count))).filter(|_| expected == 0)
 }
 
 /// A batch, which does not rise now and then.

@@ -25,7 +25,7 @@ pub struct Standing {
     pub leader: u64,
 }
 
-// What the way down from the root finds: the key, with its standing, or not; and how many blocks were met.
+// What the way down from the root finds: the key, with its standing, or not; and how many blocks were met, of those that no earlier lookup met.
 pub enum Looked {
     Held(Standing, usize),
     Absent(usize),
