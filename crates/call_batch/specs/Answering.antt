@@ -6,9 +6,8 @@ use lib.Dec.{eqb}
 use lib.ListN.{length}
 use Rattle.table.specs.Layout.{mostSlots}
 use Rattle.table_limits.specs.Lengths.{slotsFor}
-use Rattle.table_judge.specs.Judge.{isSound}
 use Rattle.table_descend.specs.Lookup.{earlier, newlyMet}
-use Rattle.call_replies.specs.declared.Refusal.the-variants.{WrongLength, NotRising, NotSound}
+use Rattle.call_replies.specs.declared.Refusal.the-variants.{WrongLength, NotRising}
 use Rattle.call_replies.specs.declared.Batched.{Batched}
 use Rattle.call_replies.specs.declared.Batched.the-variants.{Blocks, Refused}
 use Rattle.call_meaning.specs.Reasons.{shown}
@@ -51,11 +50,10 @@ abbrev pub Askable : List ℕ → Progress → List ℕ → Type 0
 Askable words so [] = Unit {0}
 Askable words so (key ∷ keys) = Ready so key × Askable words (lineAfter words so key) keys
 
--- The refusal of a batch, and an answer of no blocks where there is none.
+-- The refusal of a batch before the table is judged, and an answer of no blocks where there is none.
 unfoldable pub checked : List ℕ → Bool → Batched
 checked words rises =
-    cond (eqb (slotsFor (length words)) 0) (Refused WrongLength)
-    (cond rises (cond (isSound words) (Blocks 0) (Refused NotSound)) (Refused NotRising))
+    cond (eqb (slotsFor (length words)) 0) (Refused WrongLength) (cond rises (Blocks 0) (Refused NotRising))
 
 abbrev pub isAccepted : Batched → Bool
 isAccepted (Blocks n) = true

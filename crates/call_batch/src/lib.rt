@@ -2,8 +2,11 @@
 ghost use mathlib.Core.Bool.{true};
 ghost use mathlib.Core.List.{map};
 ghost use mathlib.Core.Path.{_≡_};
+ghost use Prim.Native.Nat.{_<_};
+ghost use lib.ListN.{length};
 ghost use Rattle.priority.specs.Priority.{HoldsConstants};
 ghost use Rattle.table.specs.Contents.{risingKeys};
+ghost use Rattle.table_limits.specs.Lengths.{slotsFor};
 ghost use Rattle.table_judge.specs.Judge.{isSound};
 ghost use Rattle.call_replies.specs.Replies.{batchedOf};
 ghost use Rattle.call_batch.specs.Batch.{keysOf, answered, batchReply, batchAfter};
@@ -114,17 +117,7 @@ fn fill(table: &[u64], constants: &[u64; CONSTANT_COUNT], questions: &mut [Quest
     so_far.blocks
 }
 
-// Answer each line of a batch over a sound table; how many different blocks they met.
-fn fill_all(table: &[u64], questions: &mut [Question]) -> usize
-    requires { ⌜ (isSound (now table) ≡ true) × Askable (now table) nothingAsked (keysOf (now questions)) ⌝ }
-    ensures { λ r. ⌜ r ≡ progress (now (table .entry)) nothingAsked (keysOf (now (questions .entry))) .blocks ⌝ }
-    ensures { λ _. ⌜ now (questions .exit) ≡ map (answered (now (table .entry))) (now (questions .entry)) ⌝ }
-{
-    let constants = priority::constant_table();
-    fill(table, &constants, questions)
-}
-
-// The refusal of a batch whose keys rise or do not; an answer of no blocks where there is none.
+// The refusal of a batch whose keys rise or do not, before the table is judged; an answer of no blocks where there is none.
 fn check(table: &[u64], rises: bool) -> Batched
     ensures { λ r. ⌜ r ≡ checked (now (table .entry)) rises ⌝ }
 {
@@ -134,9 +127,6 @@ fn check(table: &[u64], rises: bool) -> Batched
     }
     if !rises {
         return Batched::Refused(Refusal::NotRising);
-    }
-    if !table_judge::judge(table) {
-        return Batched::Refused(Refusal::NotSound);
     }
     Batched::Blocks(0)
 }
@@ -159,6 +149,42 @@ fn counted(blocks: usize) -> Batched
     Batched::Blocks(blocks)
 }
 
+// The answer of a batch over a table that is not sound.
+fn not_sound() -> Batched
+    ensures { λ r. ⌜ r ≡ Batched.Refused Refusal.NotSound ⌝ }
+{
+    Batched::Refused(Refusal::NotSound)
+}
+
+// Answer a batch whose keys rise, over a table of a right length: judge the table, and where it is sound, answer each line. The constants of
+// the priorities are lent.
+fn answer_lent(
+    table: &[u64],
+    constants: &[u64; CONSTANT_COUNT],
+    questions: &mut [Question],
+) -> Batched
+    requires { ⌜ (0 < slotsFor (length (now table))) × (risingKeys (keysOf (now questions)) ≡ true) × HoldsConstants (now constants) ⌝ }
+    ensures { λ r. ⌜ batchedOf r ≡ batchReply (now (table .entry)) (now (questions .entry)) ⌝ }
+    ensures { λ _. ⌜ now (questions .exit) ≡ batchAfter (now (table .entry)) (now (questions .entry)) ⌝ }
+{
+    if table_judge::judge(table, constants) {
+        let blocks = fill(table, constants, questions);
+        return counted(blocks);
+    }
+    not_sound()
+}
+
+// Answer a batch whose keys rise, over a table of a right length. The constants of the priorities are made here, once for the
+// judging and for all lines.
+fn answer_all(table: &[u64], questions: &mut [Question]) -> Batched
+    requires { ⌜ (0 < slotsFor (length (now table))) × (risingKeys (keysOf (now questions)) ≡ true) ⌝ }
+    ensures { λ r. ⌜ batchedOf r ≡ batchReply (now (table .entry)) (now (questions .entry)) ⌝ }
+    ensures { λ _. ⌜ now (questions .exit) ≡ batchAfter (now (table .entry)) (now (questions .entry)) ⌝ }
+{
+    let constants = priority::constant_table();
+    answer_lent(table, &constants, questions)
+}
+
 // Look the keys of a batch up, and fill in at each whether it is held, and its rank; how many different blocks hold the keys compared. The
 // table is judged once. Refusals: 1, 5, 7; then no line is filled in.
 pub fn look_up_batch(table: &[u64], questions: &mut [Question]) -> Batched
@@ -168,8 +194,7 @@ pub fn look_up_batch(table: &[u64], questions: &mut [Question]) -> Batched
     let rises = rising(questions);
     let answer = check(table, rises);
     if accepted(answer) {
-        let blocks = fill_all(table, questions);
-        return counted(blocks);
+        return answer_all(table, questions);
     }
     answer
 }

@@ -1,7 +1,10 @@
 // Making a table of any words: the blank one of an order, or that of an order and a list of keys.
 ghost use mathlib.Core.Path.{_≡_};
-ghost use Prim.Native.Nat.{_<_};
+ghost use Prim.Native.Nat.{_<_, _≤_};
 ghost use lib.ListN.{length};
+ghost use Rattle.table.specs.Layout.{mostSlots, tableWords};
+ghost use Rattle.table.specs.Table.{fresh};
+ghost use Rattle.table_prepare.specs.Prepared.{Keys};
 ghost use Rattle.call_replies.specs.Replies.{setUpOf, builtOf};
 ghost use Rattle.call_meaning.specs.Calls.{setUpReply, setUpAfter, buildReply, buildAfter};
 use call_replies::Built;
@@ -25,6 +28,16 @@ pub fn set_up(table: &mut [u64], order: u64) -> SetUp
     SetUp::Done
 }
 
+// Write the table of an order and keys, with the constants of the priorities made for it.
+fn write(order: u64, keys: &[u64], many: usize, table: &mut [u64])
+    requires { ⌜ Keys order (now keys) ⌝ }
+    requires { ⌜ (0 < many) × (length (now keys) ≤ many) × (length (now table) ≡ tableWords many) × (many ≤ mostSlots) ⌝ }
+    ensures { λ _. ⌜ now (table .exit) ≡ fresh many (record { order = order; keys = now (keys .entry) }) ⌝ }
+{
+    let constants = priority::constant_table();
+    table_write::write(order, keys, many, table, &constants);
+}
+
 // Make of any words of a right length the table of an order and a strictly rising list of keys. Refusals: 1, 2, 5, 10.
 pub fn build(table: &mut [u64], order: u64, list: &[u64]) -> Built
     ensures { λ r. ⌜ builtOf r ≡ buildReply (now (table .entry)) order (now (list .entry)) ⌝ }
@@ -43,6 +56,6 @@ pub fn build(table: &mut [u64], order: u64, list: &[u64]) -> Built
     if many < list.len() {
         return Built::Refused(Refusal::TooManyKeys);
     }
-    table_write::write(order, list, many, table);
+    write(order, list, many, table);
     Built::Done
 }

@@ -3,19 +3,21 @@ ghost use mathlib.Core.Path.{_≡_};
 ghost use mathlib.Core.Bool.{true};
 ghost use Prim.Native.Nat.{_<_, _≤_};
 ghost use lib.ListN.{length};
+ghost use Rattle.priority.specs.Priority.{HoldsConstants};
 ghost use Rattle.table.specs.Layout.{mostSlots, tableWords};
 ghost use Rattle.table.specs.Sound.{soundWith};
 ghost use Rattle.call_changes.specs.Known.{Known};
+use priority::CONSTANT_COUNT;
 use table_examine::Verdict;
 
 // Whether a table of `many` slots is sound; where it is, its keys, rising, are then at the start of `keys`; where it is not, what `keys`
-// holds is left open. Internal to this library's crates.
-pub fn know(table: &[u64], many: usize, keys: &mut [u64]) -> bool
-    requires { ⌜ (0 < many) × (many ≤ mostSlots) × (length (now table) ≡ tableWords many) × (many ≤ length (now keys)) ⌝ }
+// holds is left open. Internal to this library's crates: they lend the constants of the priorities.
+pub fn know(table: &[u64], many: usize, keys: &mut [u64], constants: &[u64; CONSTANT_COUNT]) -> bool
+    requires { ⌜ (0 < many) × (many ≤ mostSlots) × (length (now table) ≡ tableWords many) × (many ≤ length (now keys)) × HoldsConstants (now constants) ⌝ }
     ensures { λ r. ⌜ r ≡ soundWith many (now (table .entry)) ⌝ }
     ensures { λ r. ⌜ (r ≡ true → Known many (now (table .entry)) (now (keys .exit))) ⌝ }
 {
-    let found = table_judge::examine_sized(table, many, keys);
+    let found = table_judge::examine_sized(table, many, keys, constants);
     if let Verdict::Sound(_) = found {
         true
     } else {

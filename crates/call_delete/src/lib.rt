@@ -2,77 +2,103 @@
 ghost use mathlib.Core.Path.{_≡_};
 ghost use Prim.Native.Nat.{_<_, _≤_};
 ghost use lib.ListN.{length};
+ghost use Rattle.priority.specs.Priority.{HoldsConstants};
 ghost use Rattle.table.specs.Layout.{mostSlots, tableWords};
 ghost use Rattle.call_replies.specs.Replies.{deletedOf};
 ghost use Rattle.call_meaning.specs.Calls.{deleteReply, deleteAfter};
 ghost use Rattle.call_changes.specs.Known.{Known};
 use call_replies::Deleted;
 use call_replies::Refusal;
+use priority::CONSTANT_COUNT;
 use table::ORDER_WORD;
 use table::SIZE_WORD;
 
 // Delete a key from a sound table of `many` slots, its keys at the start of `keys`, as they then are again. Internal to this library's
-// crates: they have judged the table, or written it.
-pub fn delete_known(table: &mut [u64], many: usize, key: u64, keys: &mut [u64]) -> Deleted
+// crates: they have judged the table, or written it, and they lend the constants of the priorities.
+pub fn delete_known(
+    table: &mut [u64],
+    many: usize,
+    key: u64,
+    keys: &mut [u64],
+    constants: &[u64; CONSTANT_COUNT],
+) -> Deleted
     requires { ⌜ Known many (now table) (now keys) ⌝ }
-    requires { ⌜ 1 ≤ key ⌝ }
+    requires { ⌜ (1 ≤ key) × HoldsConstants (now constants) ⌝ }
     ensures { λ r. ⌜ deletedOf r ≡ deleteReply (now (table .entry)) key ⌝ }
     ensures { λ _. ⌜ now (table .exit) ≡ deleteAfter (now (table .entry)) key ⌝ }
     ensures { λ _. ⌜ Known many (now (table .exit)) (now (keys .exit)) ⌝ }
 {
-    if !table_entries::holds(table, many, key) {
+    let priority = priority::priority_from(constants, key);
+    if !table_entries::holds(table, many, key, priority) {
         return Deleted::Refused(Refusal::KeyAbsent);
     }
     let n = table[SIZE_WORD] as usize;
     let order = table[ORDER_WORD];
-    let rank = table_entries::rank_of(table, many, key);
+    let rank = table_entries::rank_of(table, many, key, priority);
     let left = call_sets::take_out(keys, n, key);
-    table_write::write(order, &keys[..left], many, table);
+    table_write::write(order, &keys[..left], many, table, constants);
     Deleted::Rank(rank)
 }
 
 // Delete a key from a table of `many` slots, with `keys` to work in.
-fn delete_in(table: &mut [u64], many: usize, key: u64, keys: &mut [u64]) -> Deleted
-    requires { ⌜ (0 < many) × (many ≤ mostSlots) × (length (now table) ≡ tableWords many) × (1 ≤ key) × (many ≤ length (now keys)) ⌝ }
+fn delete_in(
+    table: &mut [u64],
+    many: usize,
+    key: u64,
+    keys: &mut [u64],
+    constants: &[u64; CONSTANT_COUNT],
+) -> Deleted
+    requires { ⌜ (0 < many) × (many ≤ mostSlots) × (length (now table) ≡ tableWords many) × (1 ≤ key) × (many ≤ length (now keys)) × HoldsConstants (now constants) ⌝ }
     ensures { λ r. ⌜ deletedOf r ≡ deleteReply (now (table .entry)) key ⌝ }
     ensures { λ _. ⌜ now (table .exit) ≡ deleteAfter (now (table .entry)) key ⌝ }
 {
-    if !call_changes::know(table, many, keys) {
+    if !call_changes::know(table, many, keys, constants) {
         return Deleted::Refused(Refusal::NotSound);
     }
-    delete_known(table, many, key, keys)
+    delete_known(table, many, key, keys, constants)
 }
 
 // Delete a key from a table of up to 512 slots.
-fn delete_few(table: &mut [u64], many: usize, key: u64) -> Deleted
-    requires { ⌜ (0 < many) × (many ≤ 512) × (length (now table) ≡ tableWords many) × (1 ≤ key) ⌝ }
+fn delete_few(
+    table: &mut [u64],
+    many: usize,
+    key: u64,
+    constants: &[u64; CONSTANT_COUNT],
+) -> Deleted
+    requires { ⌜ (0 < many) × (many ≤ 512) × (length (now table) ≡ tableWords many) × (1 ≤ key) × HoldsConstants (now constants) ⌝ }
     ensures { λ r. ⌜ deletedOf r ≡ deleteReply (now (table .entry)) key ⌝ }
     ensures { λ _. ⌜ now (table .exit) ≡ deleteAfter (now (table .entry)) key ⌝ }
 {
     let mut keys = [0u64; 512];
-    delete_in(table, many, key, &mut keys)
+    delete_in(table, many, key, &mut keys, constants)
 }
 
 // Delete a key from a table of up to 4,096 slots.
-fn delete_many(table: &mut [u64], many: usize, key: u64) -> Deleted
-    requires { ⌜ (0 < many) × (many ≤ 4096) × (length (now table) ≡ tableWords many) × (1 ≤ key) ⌝ }
+fn delete_many(
+    table: &mut [u64],
+    many: usize,
+    key: u64,
+    constants: &[u64; CONSTANT_COUNT],
+) -> Deleted
+    requires { ⌜ (0 < many) × (many ≤ 4096) × (length (now table) ≡ tableWords many) × (1 ≤ key) × HoldsConstants (now constants) ⌝ }
     ensures { λ r. ⌜ deletedOf r ≡ deleteReply (now (table .entry)) key ⌝ }
     ensures { λ _. ⌜ now (table .exit) ≡ deleteAfter (now (table .entry)) key ⌝ }
 {
     let mut keys = [0u64; 4096];
-    delete_in(table, many, key, &mut keys)
+    delete_in(table, many, key, &mut keys, constants)
 }
 
-// Delete a key from a table of `many` slots, the key not zero.
+// Delete a key from a table of `many` slots, the key not zero, with the constants of the priorities made for it.
 fn delete_sized(table: &mut [u64], many: usize, key: u64) -> Deleted
     requires { ⌜ (0 < many) × (many ≤ mostSlots) × (length (now table) ≡ tableWords many) × (1 ≤ key) ⌝ }
     ensures { λ r. ⌜ deletedOf r ≡ deleteReply (now (table .entry)) key ⌝ }
     ensures { λ _. ⌜ now (table .exit) ≡ deleteAfter (now (table .entry)) key ⌝ }
 {
+    let constants = priority::constant_table();
     if many <= 512 {
-        return delete_few(table, many, key);
+        return delete_few(table, many, key, &constants);
     }
-    delete_many(table, many, key)
+    delete_many(table, many, key, &constants)
 }
 
 // Delete a key; the rank that it had. Refusals: 1, 3, 7, 9.

@@ -3,6 +3,7 @@
 ghost use mathlib.Core.Path.{_≡_};
 ghost use Prim.Native.Nat.{_+_, _*_, _<_, _≤_};
 ghost use lib.ListN.{length};
+ghost use Rattle.priority.specs.Priority.{HoldsConstants};
 ghost use Rattle.table.specs.Layout.{mostSlots, tableWords};
 ghost use Rattle.image.specs.Layout.{headerBytes, nodeBytes};
 ghost use Rattle.image_collect.specs.Reading.{RoomFor};
@@ -15,21 +16,28 @@ use image::MEDIUM_BYTES;
 use image::ORDER_AT;
 use image::ORDER_BYTES;
 use image_recognize::Recognized;
+use priority::CONSTANT_COUNT;
 use table::ORDER_WORD;
 use table_examine::Verdict;
 
 // Write the image of a table of `many` slots, with `keys` to work in.
-fn write_in(table: &[u64], many: usize, keys: &mut [u64], output: &mut [u8]) -> Written
-    requires { ⌜ (0 < many) × (many ≤ mostSlots) × (length (now table) ≡ tableWords many) × (many ≤ length (now keys)) ⌝ }
+fn write_in(
+    table: &[u64],
+    many: usize,
+    keys: &mut [u64],
+    output: &mut [u8],
+    constants: &[u64; CONSTANT_COUNT],
+) -> Written
+    requires { ⌜ (0 < many) × (many ≤ mostSlots) × (length (now table) ≡ tableWords many) × (many ≤ length (now keys)) × HoldsConstants (now constants) ⌝ }
     ensures { λ r. ⌜ writtenOf r ≡ writeReply (now (table .entry)) (now (output .entry)) ⌝ }
     ensures { λ _. ⌜ now (output .exit) ≡ writeOutput (now (table .entry)) (now (output .entry)) ⌝ }
 {
     let order = table[ORDER_WORD];
-    let found = table_judge::examine_sized(table, many, keys);
+    let found = table_judge::examine_sized(table, many, keys, constants);
     let Verdict::Sound(n) = found else {
         return Written::Refused(Refusal::NotSound);
     };
-    let size = image_write::write(order, &keys[..n], output);
+    let size = image_write::write(order, &keys[..n], output, constants);
     if output.len() < size {
         return Written::Refused(Refusal::OutputTooShort);
     }
@@ -37,23 +45,46 @@ fn write_in(table: &[u64], many: usize, keys: &mut [u64], output: &mut [u8]) -> 
 }
 
 // The image of a table of up to 512 slots.
-fn write_few(table: &[u64], many: usize, output: &mut [u8]) -> Written
-    requires { ⌜ (0 < many) × (many ≤ 512) × (length (now table) ≡ tableWords many) ⌝ }
+fn write_few(
+    table: &[u64],
+    many: usize,
+    output: &mut [u8],
+    constants: &[u64; CONSTANT_COUNT],
+) -> Written
+    requires { ⌜ (0 < many) × (many ≤ 512) × (length (now table) ≡ tableWords many) × HoldsConstants (now constants) ⌝ }
     ensures { λ r. ⌜ writtenOf r ≡ writeReply (now (table .entry)) (now (output .entry)) ⌝ }
     ensures { λ _. ⌜ now (output .exit) ≡ writeOutput (now (table .entry)) (now (output .entry)) ⌝ }
 {
     let mut keys = [0u64; 512];
-    write_in(table, many, &mut keys, output)
+    write_in(table, many, &mut keys, output, constants)
 }
 
 // The image of a table of up to 4,096 slots.
-fn write_many(table: &[u64], many: usize, output: &mut [u8]) -> Written
-    requires { ⌜ (0 < many) × (many ≤ 4096) × (length (now table) ≡ tableWords many) ⌝ }
+fn write_many(
+    table: &[u64],
+    many: usize,
+    output: &mut [u8],
+    constants: &[u64; CONSTANT_COUNT],
+) -> Written
+    requires { ⌜ (0 < many) × (many ≤ 4096) × (length (now table) ≡ tableWords many) × HoldsConstants (now constants) ⌝ }
     ensures { λ r. ⌜ writtenOf r ≡ writeReply (now (table .entry)) (now (output .entry)) ⌝ }
     ensures { λ _. ⌜ now (output .exit) ≡ writeOutput (now (table .entry)) (now (output .entry)) ⌝ }
 {
     let mut keys = [0u64; 4096];
-    write_in(table, many, &mut keys, output)
+    write_in(table, many, &mut keys, output, constants)
+}
+
+// The image of a table of `many` slots, with the constants of the priorities made for it.
+fn write_sized(table: &[u64], many: usize, output: &mut [u8]) -> Written
+    requires { ⌜ (0 < many) × (many ≤ mostSlots) × (length (now table) ≡ tableWords many) ⌝ }
+    ensures { λ r. ⌜ writtenOf r ≡ writeReply (now (table .entry)) (now (output .entry)) ⌝ }
+    ensures { λ _. ⌜ now (output .exit) ≡ writeOutput (now (table .entry)) (now (output .entry)) ⌝ }
+{
+    let constants = priority::constant_table();
+    if many <= 512 {
+        return write_few(table, many, output, &constants);
+    }
+    write_many(table, many, output, &constants)
 }
 
 // Write the table's image at the start of `output`; how many bytes it has. Refusals: 1, 7, 11.
@@ -65,19 +96,22 @@ pub fn write(table: &[u64], output: &mut [u8]) -> Written
     if many == 0 {
         return Written::Refused(Refusal::WrongLength);
     }
-    if many <= 512 {
-        return write_few(table, many, output);
-    }
-    write_many(table, many, output)
+    write_sized(table, many, output)
 }
 
 // Make a table of `many` slots of an image, with `keys` to work in.
-fn read_in(table: &mut [u64], many: usize, image: &[u8], keys: &mut [u64]) -> ReadBack
-    requires { ⌜ (0 < many) × (many ≤ mostSlots) × (length (now table) ≡ tableWords many) × RoomFor (length (now image)) (length (now keys)) ⌝ }
+fn read_in(
+    table: &mut [u64],
+    many: usize,
+    image: &[u8],
+    keys: &mut [u64],
+    constants: &[u64; CONSTANT_COUNT],
+) -> ReadBack
+    requires { ⌜ (0 < many) × (many ≤ mostSlots) × (length (now table) ≡ tableWords many) × RoomFor (length (now image)) (length (now keys)) × HoldsConstants (now constants) ⌝ }
     ensures { λ r. ⌜ readBackOf r ≡ readReply (now (table .entry)) (now (image .entry)) ⌝ }
     ensures { λ _. ⌜ now (table .exit) ≡ readAfter (now (table .entry)) (now (image .entry)) ⌝ }
 {
-    let found = image_recognize::recognize(image, keys);
+    let found = image_recognize::recognize(image, keys, constants);
     let Recognized::Image(n) = found else {
         return ReadBack::Refused(Refusal::NotAnImage);
     };
@@ -85,28 +119,51 @@ fn read_in(table: &mut [u64], many: usize, image: &[u8], keys: &mut [u64]) -> Re
         return ReadBack::Refused(Refusal::TooManyKeys);
     }
     let order = image_fields::get(image, ORDER_AT, ORDER_BYTES);
-    table_write::write(order, &keys[..n], many, table);
+    table_write::write(order, &keys[..n], many, table, constants);
     ReadBack::Done
 }
 
 // With room for the keys of an image of up to 15,375 bytes.
-fn read_few(table: &mut [u64], many: usize, image: &[u8]) -> ReadBack
-    requires { ⌜ (0 < many) × (many ≤ mostSlots) × (length (now table) ≡ tableWords many) × (length (now image) ≤ headerBytes + nodeBytes * 512) ⌝ }
+fn read_few(
+    table: &mut [u64],
+    many: usize,
+    image: &[u8],
+    constants: &[u64; CONSTANT_COUNT],
+) -> ReadBack
+    requires { ⌜ (0 < many) × (many ≤ mostSlots) × (length (now table) ≡ tableWords many) × (length (now image) ≤ headerBytes + nodeBytes * 512) × HoldsConstants (now constants) ⌝ }
     ensures { λ r. ⌜ readBackOf r ≡ readReply (now (table .entry)) (now (image .entry)) ⌝ }
     ensures { λ _. ⌜ now (table .exit) ≡ readAfter (now (table .entry)) (now (image .entry)) ⌝ }
 {
     let mut keys = [0u64; 512];
-    read_in(table, many, image, &mut keys)
+    read_in(table, many, image, &mut keys, constants)
 }
 
 // With room for the most keys that an image has.
-fn read_many(table: &mut [u64], many: usize, image: &[u8]) -> ReadBack
-    requires { ⌜ (0 < many) × (many ≤ mostSlots) × (length (now table) ≡ tableWords many) ⌝ }
+fn read_many(
+    table: &mut [u64],
+    many: usize,
+    image: &[u8],
+    constants: &[u64; CONSTANT_COUNT],
+) -> ReadBack
+    requires { ⌜ (0 < many) × (many ≤ mostSlots) × (length (now table) ≡ tableWords many) × HoldsConstants (now constants) ⌝ }
     ensures { λ r. ⌜ readBackOf r ≡ readReply (now (table .entry)) (now (image .entry)) ⌝ }
     ensures { λ _. ⌜ now (table .exit) ≡ readAfter (now (table .entry)) (now (image .entry)) ⌝ }
 {
     let mut keys = [0u64; 4096];
-    read_in(table, many, image, &mut keys)
+    read_in(table, many, image, &mut keys, constants)
+}
+
+// Make a table of `many` slots of an image, with the constants of the priorities made for it.
+fn read_sized(table: &mut [u64], many: usize, image: &[u8]) -> ReadBack
+    requires { ⌜ (0 < many) × (many ≤ mostSlots) × (length (now table) ≡ tableWords many) ⌝ }
+    ensures { λ r. ⌜ readBackOf r ≡ readReply (now (table .entry)) (now (image .entry)) ⌝ }
+    ensures { λ _. ⌜ now (table .exit) ≡ readAfter (now (table .entry)) (now (image .entry)) ⌝ }
+{
+    let constants = priority::constant_table();
+    if image.len() <= MEDIUM_BYTES {
+        return read_few(table, many, image, &constants);
+    }
+    read_many(table, many, image, &constants)
 }
 
 // Make of any words of a right length the table whose image the bytes are. Refusals: 1, 6, 10.
@@ -118,8 +175,5 @@ pub fn read(table: &mut [u64], image: &[u8]) -> ReadBack
     if many == 0 {
         return ReadBack::Refused(Refusal::WrongLength);
     }
-    if image.len() <= MEDIUM_BYTES {
-        return read_few(table, many, image);
-    }
-    read_many(table, many, image)
+    read_sized(table, many, image)
 }

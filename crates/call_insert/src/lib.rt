@@ -2,25 +2,34 @@
 ghost use mathlib.Core.Path.{_≡_};
 ghost use Prim.Native.Nat.{_<_, _≤_};
 ghost use lib.ListN.{length};
+ghost use Rattle.priority.specs.Priority.{HoldsConstants};
 ghost use Rattle.table.specs.Layout.{mostSlots, tableWords};
 ghost use Rattle.call_replies.specs.Replies.{insertedOf};
 ghost use Rattle.call_meaning.specs.Calls.{insertReply, insertAfter};
 ghost use Rattle.call_changes.specs.Known.{Known, RoomFor};
 use call_replies::Inserted;
 use call_replies::Refusal;
+use priority::CONSTANT_COUNT;
 use table::ORDER_WORD;
 use table::SIZE_WORD;
 
 // Insert a key into a sound table of `many` slots, its keys at the start of `keys`, as they then are again. Internal to this library's
-// crates: they have judged the table, or written it.
-pub fn insert_known(table: &mut [u64], many: usize, key: u64, keys: &mut [u64]) -> Inserted
+// crates: they have judged the table, or written it, and they lend the constants of the priorities.
+pub fn insert_known(
+    table: &mut [u64],
+    many: usize,
+    key: u64,
+    keys: &mut [u64],
+    constants: &[u64; CONSTANT_COUNT],
+) -> Inserted
     requires { ⌜ Known many (now table) (now keys) ⌝ }
-    requires { ⌜ (1 ≤ key) × RoomFor key many (now table) (now keys) ⌝ }
+    requires { ⌜ (1 ≤ key) × RoomFor key many (now table) (now keys) × HoldsConstants (now constants) ⌝ }
     ensures { λ r. ⌜ insertedOf r ≡ insertReply (now (table .entry)) key ⌝ }
     ensures { λ _. ⌜ now (table .exit) ≡ insertAfter (now (table .entry)) key ⌝ }
     ensures { λ _. ⌜ Known many (now (table .exit)) (now (keys .exit)) ⌝ }
 {
-    if table_entries::holds(table, many, key) {
+    let priority = priority::priority_from(constants, key);
+    if table_entries::holds(table, many, key, priority) {
         return Inserted::Refused(Refusal::KeyHeld);
     }
     let n = table[SIZE_WORD] as usize;
@@ -29,52 +38,69 @@ pub fn insert_known(table: &mut [u64], many: usize, key: u64, keys: &mut [u64]) 
     }
     let order = table[ORDER_WORD];
     call_sets::put_in(keys, n, key);
-    table_write::write(order, &keys[..n + 1], many, table);
-    Inserted::Rank(table_entries::rank_of(table, many, key))
+    table_write::write(order, &keys[..n + 1], many, table, constants);
+    Inserted::Rank(table_entries::rank_of(table, many, key, priority))
 }
 
 // Insert a key into a table of `many` slots, with `keys` to work in.
-fn insert_in(table: &mut [u64], many: usize, key: u64, keys: &mut [u64]) -> Inserted
-    requires { ⌜ (0 < many) × (many ≤ mostSlots) × (length (now table) ≡ tableWords many) × (1 ≤ key) × (many ≤ length (now keys)) ⌝ }
+fn insert_in(
+    table: &mut [u64],
+    many: usize,
+    key: u64,
+    keys: &mut [u64],
+    constants: &[u64; CONSTANT_COUNT],
+) -> Inserted
+    requires { ⌜ (0 < many) × (many ≤ mostSlots) × (length (now table) ≡ tableWords many) × (1 ≤ key) × (many ≤ length (now keys)) × HoldsConstants (now constants) ⌝ }
     ensures { λ r. ⌜ insertedOf r ≡ insertReply (now (table .entry)) key ⌝ }
     ensures { λ _. ⌜ now (table .exit) ≡ insertAfter (now (table .entry)) key ⌝ }
 {
-    if !call_changes::know(table, many, keys) {
+    if !call_changes::know(table, many, keys, constants) {
         return Inserted::Refused(Refusal::NotSound);
     }
-    insert_known(table, many, key, keys)
+    insert_known(table, many, key, keys, constants)
 }
 
 // Insert a key into a table of up to 512 slots.
-fn insert_few(table: &mut [u64], many: usize, key: u64) -> Inserted
-    requires { ⌜ (0 < many) × (many ≤ 512) × (length (now table) ≡ tableWords many) × (1 ≤ key) ⌝ }
+fn insert_few(
+    table: &mut [u64],
+    many: usize,
+    key: u64,
+    constants: &[u64; CONSTANT_COUNT],
+) -> Inserted
+    requires { ⌜ (0 < many) × (many ≤ 512) × (length (now table) ≡ tableWords many) × (1 ≤ key) × HoldsConstants (now constants) ⌝ }
     ensures { λ r. ⌜ insertedOf r ≡ insertReply (now (table .entry)) key ⌝ }
     ensures { λ _. ⌜ now (table .exit) ≡ insertAfter (now (table .entry)) key ⌝ }
 {
     let mut keys = [0u64; 512];
-    insert_in(table, many, key, &mut keys)
+    insert_in(table, many, key, &mut keys, constants)
 }
 
 // Insert a key into a table of up to 4,096 slots.
-fn insert_many(table: &mut [u64], many: usize, key: u64) -> Inserted
-    requires { ⌜ (0 < many) × (many ≤ 4096) × (length (now table) ≡ tableWords many) × (1 ≤ key) ⌝ }
+fn insert_many(
+    table: &mut [u64],
+    many: usize,
+    key: u64,
+    constants: &[u64; CONSTANT_COUNT],
+) -> Inserted
+    requires { ⌜ (0 < many) × (many ≤ 4096) × (length (now table) ≡ tableWords many) × (1 ≤ key) × HoldsConstants (now constants) ⌝ }
     ensures { λ r. ⌜ insertedOf r ≡ insertReply (now (table .entry)) key ⌝ }
     ensures { λ _. ⌜ now (table .exit) ≡ insertAfter (now (table .entry)) key ⌝ }
 {
     let mut keys = [0u64; 4096];
-    insert_in(table, many, key, &mut keys)
+    insert_in(table, many, key, &mut keys, constants)
 }
 
-// Insert a key into a table of `many` slots, the key not zero.
+// Insert a key into a table of `many` slots, the key not zero, with the constants of the priorities made for it.
 fn insert_sized(table: &mut [u64], many: usize, key: u64) -> Inserted
     requires { ⌜ (0 < many) × (many ≤ mostSlots) × (length (now table) ≡ tableWords many) × (1 ≤ key) ⌝ }
     ensures { λ r. ⌜ insertedOf r ≡ insertReply (now (table .entry)) key ⌝ }
     ensures { λ _. ⌜ now (table .exit) ≡ insertAfter (now (table .entry)) key ⌝ }
 {
+    let constants = priority::constant_table();
     if many <= 512 {
-        return insert_few(table, many, key);
+        return insert_few(table, many, key, &constants);
     }
-    insert_many(table, many, key)
+    insert_many(table, many, key, &constants)
 }
 
 // Insert a key; the rank that it then has. Refusals: 1, 3, 7, 8, 10.

@@ -4,6 +4,7 @@ ghost use Prim.Native.Nat.{_+_, _*_, _≤_};
 ghost use lib.ListN.{length};
 ghost use Rattle.image.specs.Layout.{headerBytes, nodeBytes};
 ghost use Rattle.image_collect.specs.Reading.{RoomFor};
+ghost use Rattle.priority.specs.Priority.{HoldsConstants};
 ghost use Rattle.table.specs.Layout.{tableWords};
 ghost use Rattle.text.specs.Written.{Written};
 ghost use Rattle.call_replies.specs.Replies.{listedOf};
@@ -13,6 +14,7 @@ use call_replies::ReadBack;
 use call_replies::Refusal;
 use image::MEDIUM_BYTES;
 use image_recognize::Recognized;
+use priority::CONSTANT_COUNT;
 
 // The most bytes that the listing program reads, and room for all that it prints.
 pub const PROGRAM_BYTES: usize = 44015;
@@ -20,12 +22,17 @@ pub const PROGRAM_BYTES: usize = 44015;
 pub const PROGRAM_ROOM: usize = 440150;
 
 // Write the listing of an image, with `keys` to work in.
-fn list_in(image: &[u8], keys: &mut [u64], output: &mut [u8]) -> Listed
-    requires { ⌜ RoomFor (length (now image)) (length (now keys)) ⌝ }
+fn list_in(
+    image: &[u8],
+    keys: &mut [u64],
+    output: &mut [u8],
+    constants: &[u64; CONSTANT_COUNT],
+) -> Listed
+    requires { ⌜ RoomFor (length (now image)) (length (now keys)) × HoldsConstants (now constants) ⌝ }
     ensures { λ r. ⌜ listedOf r ≡ listReply (now (image .entry)) (now (output .entry)) ⌝ }
     ensures { λ _. ⌜ now (output .exit) ≡ listOutput (now (image .entry)) (now (output .entry)) ⌝ }
 {
-    let found = image_recognize::recognize(image, keys);
+    let found = image_recognize::recognize(image, keys, constants);
     let Recognized::Image(n) = found else {
         return Listed::Refused(Refusal::NotAnImage);
     };
@@ -36,22 +43,23 @@ fn list_in(image: &[u8], keys: &mut [u64], output: &mut [u8]) -> Listed
 }
 
 // Write the listing of an image of up to 15,375 bytes.
-fn list_few(image: &[u8], output: &mut [u8]) -> Listed
-    requires { ⌜ length (now image) ≤ headerBytes + nodeBytes * 512 ⌝ }
+fn list_few(image: &[u8], output: &mut [u8], constants: &[u64; CONSTANT_COUNT]) -> Listed
+    requires { ⌜ (length (now image) ≤ headerBytes + nodeBytes * 512) × HoldsConstants (now constants) ⌝ }
     ensures { λ r. ⌜ listedOf r ≡ listReply (now (image .entry)) (now (output .entry)) ⌝ }
     ensures { λ _. ⌜ now (output .exit) ≡ listOutput (now (image .entry)) (now (output .entry)) ⌝ }
 {
     let mut keys = [0u64; 512];
-    list_in(image, &mut keys, output)
+    list_in(image, &mut keys, output, constants)
 }
 
 // Write the listing of an image of up to 4,096 keys.
-fn list_many(image: &[u8], output: &mut [u8]) -> Listed
+fn list_many(image: &[u8], output: &mut [u8], constants: &[u64; CONSTANT_COUNT]) -> Listed
+    requires { ⌜ HoldsConstants (now constants) ⌝ }
     ensures { λ r. ⌜ listedOf r ≡ listReply (now (image .entry)) (now (output .entry)) ⌝ }
     ensures { λ _. ⌜ now (output .exit) ≡ listOutput (now (image .entry)) (now (output .entry)) ⌝ }
 {
     let mut keys = [0u64; 4096];
-    list_in(image, &mut keys, output)
+    list_in(image, &mut keys, output, constants)
 }
 
 // Write the text of an image at the start of `output`; how many bytes it has. Refusals: 6, 11.
@@ -59,10 +67,11 @@ pub fn list(image: &[u8], output: &mut [u8]) -> Listed
     ensures { λ r. ⌜ listedOf r ≡ listReply (now (image .entry)) (now (output .entry)) ⌝ }
     ensures { λ _. ⌜ now (output .exit) ≡ listOutput (now (image .entry)) (now (output .entry)) ⌝ }
 {
+    let constants = priority::constant_table();
     if image.len() <= MEDIUM_BYTES {
-        return list_few(image, output);
+        return list_few(image, output, &constants);
     }
-    list_many(image, output)
+    list_many(image, output, &constants)
 }
 
 // The refusal of an image that is read into a table of 1,000 slots; 0 for none.

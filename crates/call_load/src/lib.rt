@@ -5,6 +5,7 @@ ghost use mathlib.Core.List.{[]};
 ghost use Prim.Native.Nat.{_<_, _≤_};
 ghost use lib.ListN.{length};
 ghost use Rattle.lists.specs.Lists.{All};
+ghost use Rattle.priority.specs.Priority.{HoldsConstants};
 ghost use Rattle.table.specs.Layout.{mostSlots, tableWords};
 ghost use Rattle.table.specs.Table.{contentsOf, fresh};
 ghost use Rattle.table.specs.Sound.{soundWith};
@@ -15,6 +16,7 @@ ghost use Rattle.call_changes.specs.Known.{Known};
 ghost use Rattle.call_changes.specs.Done.{IsLoadKey, withDone};
 use call_replies::Loaded;
 use call_replies::SetUp;
+use priority::CONSTANT_COUNT;
 
 // The keys are 1 to this.
 const KEY_COUNT: usize = 512;
@@ -29,49 +31,63 @@ const DELETE: u64 = 2;
 
 // Do the operation that a state chooses, on a sound table of `many` slots with its keys at the start of `keys`. A refused one changes
 // nothing; what it answers is not reported.
-fn operate(table: &mut [u64], many: usize, state: u64, keys: &mut [u64])
+fn operate(
+    table: &mut [u64],
+    many: usize,
+    state: u64,
+    keys: &mut [u64],
+    constants: &[u64; CONSTANT_COUNT],
+)
     requires { ⌜ Known many (now table) (now keys) ⌝ }
-    requires { ⌜ All IsLoadKey (contentsOf many (now table) .keys) × (512 ≤ length (now keys)) ⌝ }
+    requires { ⌜ All IsLoadKey (contentsOf many (now table) .keys) × (512 ≤ length (now keys)) × HoldsConstants (now constants) ⌝ }
     ensures { λ _. ⌜ Known many (now (table .exit)) (now (keys .exit)) ⌝ }
     ensures { λ _. ⌜ contentsOf many (now (table .exit)) ≡ withDone many (chosen state) (contentsOf many (now (table .entry))) ⌝ }
 {
     let key = state / KEY_DIVISOR % KEY_COUNT as u64 + 1;
     let choice = state / CHOICE_DIVISOR;
     if choice < DELETE {
-        call_insert::insert_known(table, many, key, keys);
+        call_insert::insert_known(table, many, key, keys, constants);
         return;
     }
     if choice == DELETE {
-        call_delete::delete_known(table, many, key, keys);
+        call_delete::delete_known(table, many, key, keys, constants);
         return;
     }
-    table_descend::look_up(table, many, key);
+    table_descend::look_up(table, many, key, constants);
 }
 
 // Do `count` operations after a seed, on a blank table of `many` slots, with `keys` to work in.
-fn operate_all(table: &mut [u64], many: usize, seed: u64, count: u16, keys: &mut [u64])
+fn operate_all(
+    table: &mut [u64],
+    many: usize,
+    seed: u64,
+    count: u16,
+    keys: &mut [u64],
+    constants: &[u64; CONSTANT_COUNT],
+)
     requires { ⌜ (0 < many) × (many ≤ mostSlots) × (length (now table) ≡ tableWords many) × (soundWith many (now table) ≡ true) ⌝ }
-    requires { ⌜ (contentsOf many (now table) .keys ≡ []) × (512 ≤ length (now keys)) ⌝ }
+    requires { ⌜ (contentsOf many (now table) .keys ≡ []) × (512 ≤ length (now keys)) × HoldsConstants (now constants) ⌝ }
     ensures { λ _. ⌜ now (table .exit) ≡ fresh many (record { order = contentsOf many (now (table .entry)) .order; keys = loaded many seed count }) ⌝ }
 {
     let mut state = seed;
     let mut left = count;
     while 0 < left {
         let stepped = generator::next(state);
-        operate(table, many, stepped, keys);
+        operate(table, many, stepped, keys, constants);
         state = stepped;
         left -= 1;
     }
 }
 
-// The same, with room for as many keys as a load has.
+// The same, with room for as many keys as a load has, and the constants made for all its operations.
 fn operate_within(table: &mut [u64], many: usize, seed: u64, count: u16)
     requires { ⌜ (0 < many) × (many ≤ mostSlots) × (length (now table) ≡ tableWords many) × (soundWith many (now table) ≡ true) ⌝ }
     requires { ⌜ contentsOf many (now table) .keys ≡ [] ⌝ }
     ensures { λ _. ⌜ now (table .exit) ≡ fresh many (record { order = contentsOf many (now (table .entry)) .order; keys = loaded many seed count }) ⌝ }
 {
     let mut keys = [0u64; KEY_COUNT];
-    operate_all(table, many, seed, count, &mut keys);
+    let constants = priority::constant_table();
+    operate_all(table, many, seed, count, &mut keys, &constants);
 }
 
 // Make of any words of a right length the table of an order and of the keys that `count` operations after a seed leave. Refusals: 1, 2.

@@ -1,5 +1,6 @@
 // Reading a range key by key. Each step takes any words and any place; what it refuses it leaves as it was.
 ghost use mathlib.Core.Path.{_≡_};
+ghost use Rattle.table_judge.specs.Judge.{isSound};
 ghost use Rattle.call_replies.specs.Replies.{steppedOf};
 ghost use Rattle.call_step.specs.Steps.{placeOf, placeFrom, wholePlace, spentPlace, passed, stepReply, stepPlace};
 use call_replies::Refusal;
@@ -81,6 +82,14 @@ fn refused(reason: Refusal, place: Place) -> Moved
     Moved { answer, place }
 }
 
+// Whether a table is sound, with the constants of the priorities made for it.
+fn judge(table: &[u64]) -> bool
+    ensures { λ r. ⌜ r ≡ isSound (now (table .entry)) ⌝ }
+{
+    let constants = priority::constant_table();
+    table_judge::judge(table, &constants)
+}
+
 // The least key that the table holds from `next` to `high`, and the place after it; the end where there is none, and where the
 // place is done. Refusals: 1, 7.
 pub fn step_at(table: &[u64], next: u64, high: u64, done: bool) -> Moved
@@ -92,7 +101,7 @@ pub fn step_at(table: &[u64], next: u64, high: u64, done: bool) -> Moved
     if many == 0 {
         return refused(Refusal::WrongLength, place);
     }
-    if !table_judge::judge(table) {
+    if !judge(table) {
         return refused(Refusal::NotSound, place);
     }
     if done {

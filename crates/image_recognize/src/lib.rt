@@ -4,6 +4,7 @@ ghost use mathlib.Core.Path.{_≡_};
 ghost use Prim.Native.Nat.{_+_, _*_, _≤_};
 ghost use lib.ListN.{length};
 ghost use Rattle.lists.specs.Lists.{overwrite, same};
+ghost use Rattle.priority.specs.Priority.{HoldsConstants};
 ghost use Rattle.table.specs.Layout.{mostSlots};
 ghost use Rattle.image.specs.Layout.{headerBytes, nodeBytes};
 ghost use Rattle.image.specs.Image.{readImage, isImage};
@@ -15,6 +16,7 @@ use image::ORDER_AT;
 use image::ORDER_BYTES;
 use image::SMALL_BYTES;
 use image_collect::Collected;
+use priority::CONSTANT_COUNT;
 use table::GREATEST_ORDER;
 use table::LEAST_ORDER;
 
@@ -34,8 +36,9 @@ fn recognize_in(
     spare: &mut [u64],
     copy: &mut [u8],
     keys: &mut [u64],
+    constants: &[u64; CONSTANT_COUNT],
 ) -> Recognized
-    requires { ⌜ (length (now held) ≤ mostSlots) × (length (now copy) ≡ length (now image)) ⌝ }
+    requires { ⌜ (length (now held) ≤ mostSlots) × (length (now copy) ≡ length (now image)) × HoldsConstants (now constants) ⌝ }
     requires { ⌜ RoomFor (length (now image)) (length (now held)) × RoomFor (length (now image)) (length (now weights)) × RoomFor (length (now image)) (length (now ranking)) × RoomFor (length (now image)) (length (now spare)) × RoomFor (length (now image)) (length (now keys)) ⌝ }
     ensures { λ r. ⌜ r ≡ recognized (now (image .entry)) ⌝ }
     ensures { λ _. ⌜ (isImage (now (image .entry)) ≡ true → now (keys .exit) ≡ overwrite (now (keys .entry)) 0 (readImage (now (image .entry)) .keys)) ⌝ }
@@ -52,7 +55,7 @@ fn recognize_in(
     if !table_decode::is_rising(&keys[..n]) {
         return Recognized::Other;
     }
-    let size = image_write::write(order, &keys[..n], copy);
+    let size = image_write::write(order, &keys[..n], copy, constants);
     if size != image.len() {
         return Recognized::Other;
     }
@@ -71,8 +74,9 @@ fn recognize_within(
     spare: &mut [u64],
     copy: &mut [u8],
     keys: &mut [u64],
+    constants: &[u64; CONSTANT_COUNT],
 ) -> Recognized
-    requires { ⌜ (length (now held) ≤ mostSlots) × (length (now image) ≤ length (now copy)) ⌝ }
+    requires { ⌜ (length (now held) ≤ mostSlots) × (length (now image) ≤ length (now copy)) × HoldsConstants (now constants) ⌝ }
     requires { ⌜ RoomFor (length (now image)) (length (now held)) × RoomFor (length (now image)) (length (now weights)) × RoomFor (length (now image)) (length (now ranking)) × RoomFor (length (now image)) (length (now spare)) × RoomFor (length (now image)) (length (now keys)) ⌝ }
     ensures { λ r. ⌜ r ≡ recognized (now (image .entry)) ⌝ }
     ensures { λ _. ⌜ (isImage (now (image .entry)) ≡ true → now (keys .exit) ≡ overwrite (now (keys .entry)) 0 (readImage (now (image .entry)) .keys)) ⌝ }
@@ -86,12 +90,13 @@ fn recognize_within(
         spare,
         &mut copy[..size],
         keys,
+        constants,
     )
 }
 
 // An image of up to 1,935 bytes, which has at most 64 keys.
-fn recognize_small(image: &[u8], keys: &mut [u64]) -> Recognized
-    requires { ⌜ (length (now image) ≤ headerBytes + nodeBytes * 64) × RoomFor (length (now image)) (length (now keys)) ⌝ }
+fn recognize_small(image: &[u8], keys: &mut [u64], constants: &[u64; CONSTANT_COUNT]) -> Recognized
+    requires { ⌜ (length (now image) ≤ headerBytes + nodeBytes * 64) × RoomFor (length (now image)) (length (now keys)) × HoldsConstants (now constants) ⌝ }
     ensures { λ r. ⌜ r ≡ recognized (now (image .entry)) ⌝ }
     ensures { λ _. ⌜ (isImage (now (image .entry)) ≡ true → now (keys .exit) ≡ overwrite (now (keys .entry)) 0 (readImage (now (image .entry)) .keys)) ⌝ }
 {
@@ -108,12 +113,13 @@ fn recognize_small(image: &[u8], keys: &mut [u64]) -> Recognized
         &mut spare,
         &mut copy,
         keys,
+        constants,
     )
 }
 
 // An image of up to 15,375 bytes, which has at most 512 keys.
-fn recognize_medium(image: &[u8], keys: &mut [u64]) -> Recognized
-    requires { ⌜ (length (now image) ≤ headerBytes + nodeBytes * 512) × RoomFor (length (now image)) (length (now keys)) ⌝ }
+fn recognize_medium(image: &[u8], keys: &mut [u64], constants: &[u64; CONSTANT_COUNT]) -> Recognized
+    requires { ⌜ (length (now image) ≤ headerBytes + nodeBytes * 512) × RoomFor (length (now image)) (length (now keys)) × HoldsConstants (now constants) ⌝ }
     ensures { λ r. ⌜ r ≡ recognized (now (image .entry)) ⌝ }
     ensures { λ _. ⌜ (isImage (now (image .entry)) ≡ true → now (keys .exit) ≡ overwrite (now (keys .entry)) 0 (readImage (now (image .entry)) .keys)) ⌝ }
 {
@@ -130,12 +136,13 @@ fn recognize_medium(image: &[u8], keys: &mut [u64]) -> Recognized
         &mut spare,
         &mut copy,
         keys,
+        constants,
     )
 }
 
 // An image of up to 180,239 bytes.
-fn recognize_large(image: &[u8], keys: &mut [u64]) -> Recognized
-    requires { ⌜ (length (now image) ≤ 180239) × RoomFor (length (now image)) (length (now keys)) ⌝ }
+fn recognize_large(image: &[u8], keys: &mut [u64], constants: &[u64; CONSTANT_COUNT]) -> Recognized
+    requires { ⌜ (length (now image) ≤ 180239) × RoomFor (length (now image)) (length (now keys)) × HoldsConstants (now constants) ⌝ }
     ensures { λ r. ⌜ r ≡ recognized (now (image .entry)) ⌝ }
     ensures { λ _. ⌜ (isImage (now (image .entry)) ≡ true → now (keys .exit) ≡ overwrite (now (keys .entry)) 0 (readImage (now (image .entry)) .keys)) ⌝ }
 {
@@ -152,14 +159,15 @@ fn recognize_large(image: &[u8], keys: &mut [u64]) -> Recognized
         &mut spare,
         &mut copy,
         keys,
+        constants,
     )
 }
 
 // Recognize an image, with no more room than images of about its size need; where it is one, its keys, rising, are then at the start of
 // `keys`; else what `keys` holds is left open. Internal to this library's crates: their lists have room for the keys of an image of this
-// length.
-pub fn recognize(image: &[u8], keys: &mut [u64]) -> Recognized
-    requires { ⌜ RoomFor (length (now image)) (length (now keys)) ⌝ }
+// length, and they lend the constants of the priorities.
+pub fn recognize(image: &[u8], keys: &mut [u64], constants: &[u64; CONSTANT_COUNT]) -> Recognized
+    requires { ⌜ RoomFor (length (now image)) (length (now keys)) × HoldsConstants (now constants) ⌝ }
     ensures { λ r. ⌜ r ≡ recognized (now (image .entry)) ⌝ }
     ensures { λ _. ⌜ (isImage (now (image .entry)) ≡ true → now (keys .exit) ≡ overwrite (now (keys .entry)) 0 (readImage (now (image .entry)) .keys)) ⌝ }
 {
@@ -167,10 +175,10 @@ pub fn recognize(image: &[u8], keys: &mut [u64]) -> Recognized
         return Recognized::Other;
     }
     if image.len() <= SMALL_BYTES {
-        return recognize_small(image, keys);
+        return recognize_small(image, keys, constants);
     }
     if image.len() <= MEDIUM_BYTES {
-        return recognize_medium(image, keys);
+        return recognize_medium(image, keys, constants);
     }
-    recognize_large(image, keys)
+    recognize_large(image, keys, constants)
 }

@@ -16,7 +16,7 @@ const BYTE_VALUES: u64 = 256;
 
 const HOME_DIVISOR: u64 = 65536;
 
-// The table of the constants. A call stores all of them, so it is made once and lent where there are many keys.
+// The table of the constants. Making it stores all of them, so a call of the library makes it once and lends it.
 pub fn constant_table() -> [u64; CONSTANT_COUNT]
     ensures { λ r. ⌜ HoldsConstants r ⌝ }
 {
@@ -40,7 +40,8 @@ pub fn priority_from(constants: &[u64; CONSTANT_COUNT], key: u64) -> u64
 }
 
 // Write the priorities of `keys`, in their order, at the start of `output`.
-fn priorities_from(constants: &[u64; CONSTANT_COUNT], keys: &[u64], output: &mut [u64])
+// Internal to this library's crates: they lend the table of the constants, and their outputs have room for every key.
+pub fn priorities_from(constants: &[u64; CONSTANT_COUNT], keys: &[u64], output: &mut [u64])
     requires { ⌜ HoldsConstants (now constants) ⌝ }
     requires { ⌜ length (now keys) ≤ length (now output) ⌝ }
     ensures { λ _. ⌜ now (output .exit) ≡ prioritiesOver (now (keys .entry)) (now (output .entry)) ⌝ }
@@ -48,24 +49,6 @@ fn priorities_from(constants: &[u64; CONSTANT_COUNT], keys: &[u64], output: &mut
     for i in 0..keys.len() {
         output[i] = priority_from(constants, keys[i]);
     }
-}
-
-// The priority of `key`. It makes the table of the constants anew: for many keys, lend one to `priority_from`, or call `priorities`.
-pub fn priority(key: u64) -> u64
-    ensures { λ r. ⌜ r ≡ priorityOf key ⌝ }
-{
-    let constants = constant_table();
-    priority_from(&constants, key)
-}
-
-// Write the priorities of `keys`, in their order, at the start of `output`.
-// Internal to this library's crates: their outputs have room for every key.
-pub fn priorities(keys: &[u64], output: &mut [u64])
-    requires { ⌜ length (now keys) ≤ length (now output) ⌝ }
-    ensures { λ _. ⌜ now (output .exit) ≡ prioritiesOver (now (keys .entry)) (now (output .entry)) ⌝ }
-{
-    let constants = constant_table();
-    priorities_from(&constants, keys, output)
 }
 
 // The home, in a table of `slots` slots, of a key with this priority.

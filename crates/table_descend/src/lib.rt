@@ -11,6 +11,7 @@ ghost use Rattle.table.specs.Table.{contentsOf};
 ghost use Rattle.table.specs.Sound.{soundWith};
 ghost use Rattle.table_descend.specs.Lookup.{standingOf, lookedUp, earlier, lookedUpAfter};
 ghost use Rattle.table_descend.specs.Entering.{firstBlock, otherThan, lowAfter, newBlock};
+ghost use Rattle.table_find.specs.Find.{OnlyAt};
 ghost use Rattle.table_entries.specs.Steps.{InSlot};
 use priority::CONSTANT_COUNT;
 use table::COUNT_FIELD;
@@ -29,6 +30,15 @@ pub struct Standing {
 pub enum Looked {
     Held(Standing, usize),
     Absent(usize),
+}
+
+// The slot of a key that the way down reaches: its priority is worked out, and handed to the search. The constants of the priorities are lent.
+fn slot_reached(table: &[u64], many: usize, key: u64, constants: &[u64; CONSTANT_COUNT]) -> usize
+    requires { ⌜ (0 < many) × (many ≤ mostSlots) × (length (now table) ≡ tableWords many) × (soundWith many (now table) ≡ true) × (member key (contentsOf many (now table) .keys) ≡ true) × HoldsConstants (now constants) ⌝ }
+    ensures { λ r. ⌜ OnlyAt many (now (table .entry)) key r ⌝ }
+{
+    let priority = priority::priority_from(constants, key);
+    table_entries::slot_of(table, many, key, priority)
 }
 
 // The standing of the key in a slot.
@@ -104,7 +114,7 @@ fn is_new_block(
     if there == 0 {
         return true;
     }
-    let its_slot = table_entries::slot_of(table, many, there, constants);
+    let its_slot = slot_reached(table, many, there, constants);
     table_entries::level_of(table, many, its_slot, there) != below
 }
 
@@ -128,7 +138,7 @@ pub fn look_up_after(
         return Looked::Absent(0);
     }
     let mut at = root;
-    let mut slot = table_entries::slot_of(table, many, root, constants);
+    let mut slot = slot_reached(table, many, root, constants);
     let mut level = table_entries::level_of(table, many, slot, root);
     let mut low = 0;
     let mut met = first_block(last);
@@ -137,7 +147,7 @@ pub fn look_up_after(
         if next == 0 {
             return Looked::Absent(met);
         }
-        let its_slot = table_entries::slot_of(table, many, next, constants);
+        let its_slot = slot_reached(table, many, next, constants);
         let below = table_entries::level_of(table, many, its_slot, next);
         let other = other_than(at, last, before);
         if is_new_block(
@@ -162,12 +172,11 @@ pub fn look_up_after(
     Looked::Held(standing_of(table, many, slot, at), met)
 }
 
-// The way down the table's treap to `key`.
+// The way down the table's treap to `key`. The constants of the priorities are lent.
 // Internal to this library's crates: their tables are judged before.
-pub fn look_up(table: &[u64], many: usize, key: u64) -> Looked
-    requires { ⌜ (0 < many) × (many ≤ mostSlots) × (length (now table) ≡ tableWords many) × (soundWith many (now table) ≡ true) ⌝ }
+pub fn look_up(table: &[u64], many: usize, key: u64, constants: &[u64; CONSTANT_COUNT]) -> Looked
+    requires { ⌜ (0 < many) × (many ≤ mostSlots) × (length (now table) ≡ tableWords many) × (soundWith many (now table) ≡ true) × HoldsConstants (now constants) ⌝ }
     ensures { λ r. ⌜ r ≡ lookedUp (contentsOf many (now (table .entry))) key ⌝ }
 {
-    let constants = priority::constant_table();
-    look_up_after(table, many, key, 0, 0, &constants)
+    look_up_after(table, many, key, 0, 0, constants)
 }

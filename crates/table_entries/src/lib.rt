@@ -4,7 +4,7 @@ ghost use mathlib.Core.Path.{_≡_};
 ghost use Prim.Native.Nat.{_+_, _<_, _≤_};
 ghost use lib.ListN.{length, getD};
 ghost use Rattle.lists.specs.Lists.{member};
-ghost use Rattle.priority.specs.Priority.{HoldsConstants, priorityOf};
+ghost use Rattle.priority.specs.Priority.{priorityOf};
 ghost use Rattle.treap.specs.Levels.{rank};
 ghost use Rattle.treap_structure.proofs.Blocks.{blockLevel};
 ghost use Rattle.table.specs.Layout.{mostSlots, tableWords, slotStart};
@@ -12,7 +12,6 @@ ghost use Rattle.table.specs.Table.{contentsOf};
 ghost use Rattle.table.specs.Sound.{soundWith};
 ghost use Rattle.table_find.specs.Find.{OnlyAt};
 ghost use Rattle.table_entries.specs.Steps.{nextKey, InSlot};
-use priority::CONSTANT_COUNT;
 use table::HEADER_WORDS;
 use table::KEY_FIELD;
 use table::LEFT_FIELD;
@@ -30,48 +29,40 @@ pub fn word_of(table: &[u64], slot: usize, field: usize) -> u64
     table[HEADER_WORDS + SLOT_WORDS * slot + field]
 }
 
-// Whether the table holds `key`.
+// Whether the table holds `key`. Handed the key's own priority.
 // Internal to this library's crates: their tables are judged before, and their keys are not zero.
-pub fn holds(table: &[u64], many: usize, key: u64) -> bool
-    requires { ⌜ (0 < many) × (many ≤ mostSlots) × (length (now table) ≡ tableWords many) × (soundWith many (now table) ≡ true) × (1 ≤ key) ⌝ }
+pub fn holds(table: &[u64], many: usize, key: u64, priority: u64) -> bool
+    requires { ⌜ (0 < many) × (many ≤ mostSlots) × (length (now table) ≡ tableWords many) × (soundWith many (now table) ≡ true) × (1 ≤ key) × (priority ≡ priorityOf key) ⌝ }
     ensures { λ r. ⌜ r ≡ member key (contentsOf many (now (table .entry)) .keys) ⌝ }
 {
-    let found = table_find::find(table, many, key, priority::priority(key));
+    let found = table_find::find(table, many, key, priority);
     let Found::At(slot) = found else {
         return false;
     };
     word_of(table, slot, KEY_FIELD) == key
 }
 
-// The slot of a key that the table holds; the constants of the priorities are lent. Internal to this library's crates.
-pub fn slot_of(table: &[u64], many: usize, key: u64, constants: &[u64; CONSTANT_COUNT]) -> usize
-    requires { ⌜ (0 < many) × (many ≤ mostSlots) × (length (now table) ≡ tableWords many) × (soundWith many (now table) ≡ true) × (member key (contentsOf many (now table) .keys) ≡ true) × HoldsConstants (now constants) ⌝ }
+// The slot of a key that the table holds. Handed the key's own priority.
+// Internal to this library's crates: their tables are judged before.
+pub fn slot_of(table: &[u64], many: usize, key: u64, priority: u64) -> usize
+    requires { ⌜ (0 < many) × (many ≤ mostSlots) × (length (now table) ≡ tableWords many) × (soundWith many (now table) ≡ true) × (member key (contentsOf many (now table) .keys) ≡ true) × (priority ≡ priorityOf key) ⌝ }
     ensures { λ r. ⌜ OnlyAt many (now (table .entry)) key r ⌝ }
 {
-    let found = table_find::find(table, many, key, priority::priority_from(constants, key));
+    let found = table_find::find(table, many, key, priority);
     let Found::At(slot) = found else {
         return 0;
     };
     slot
 }
 
-// The rank of a key that the table holds; the constants of the priorities are lent.
-fn rank_in(table: &[u64], many: usize, key: u64, constants: &[u64; CONSTANT_COUNT]) -> u64
-    requires { ⌜ (0 < many) × (many ≤ mostSlots) × (length (now table) ≡ tableWords many) × (soundWith many (now table) ≡ true) × (member key (contentsOf many (now table) .keys) ≡ true) × HoldsConstants (now constants) ⌝ }
-    ensures { λ r. ⌜ r ≡ rank (contentsOf many (now (table .entry)) .order) priorityOf (contentsOf many (now (table .entry)) .keys) key ⌝ }
-{
-    let slot = slot_of(table, many, key, constants);
-    word_of(table, slot, RANK_FIELD)
-}
-
-// The rank of a key that the table holds.
+// The rank of a key that the table holds. Handed the key's own priority.
 // Internal to this library's crates: their tables are judged before.
-pub fn rank_of(table: &[u64], many: usize, key: u64) -> u64
-    requires { ⌜ (0 < many) × (many ≤ mostSlots) × (length (now table) ≡ tableWords many) × (soundWith many (now table) ≡ true) × (member key (contentsOf many (now table) .keys) ≡ true) ⌝ }
+pub fn rank_of(table: &[u64], many: usize, key: u64, priority: u64) -> u64
+    requires { ⌜ (0 < many) × (many ≤ mostSlots) × (length (now table) ≡ tableWords many) × (soundWith many (now table) ≡ true) × (member key (contentsOf many (now table) .keys) ≡ true) × (priority ≡ priorityOf key) ⌝ }
     ensures { λ r. ⌜ r ≡ rank (contentsOf many (now (table .entry)) .order) priorityOf (contentsOf many (now (table .entry)) .keys) key ⌝ }
 {
-    let constants = priority::constant_table();
-    rank_in(table, many, key, &constants)
+    let slot = slot_of(table, many, key, priority);
+    word_of(table, slot, RANK_FIELD)
 }
 
 // The level of the block that holds the key in a slot: its rank for the root, one more for any other key. Internal to this library's crates.

@@ -4,10 +4,12 @@ ghost use Prim.Native.Nat.{_<_, _≤_};
 ghost use lib.ListN.{length};
 ghost use mathlib.Core.Bool.{true, cond};
 ghost use Rattle.lists.specs.Lists.{overwrite};
+ghost use Rattle.priority.specs.Priority.{HoldsConstants};
 ghost use Rattle.table.specs.Layout.{mostSlots, tableWords};
 ghost use Rattle.table.specs.Table.{contentsOf};
 ghost use Rattle.table.specs.Sound.{soundWith};
 ghost use Rattle.table_examine.specs.Examine.{verdictOf};
+use priority::CONSTANT_COUNT;
 use table::ORDER_WORD;
 
 // What examining a table finds: how many keys it holds, where it is sound.
@@ -50,7 +52,7 @@ fn conclude(same: bool, n: usize) -> Verdict
 
 // Examine a table of `many` slots; where it is sound, its keys, rising, are then at the start of `keys`; where it is not, what `keys`
 // holds is left open. Internal to this library's crates: the other lists are room to work in, as long as the table has slots; what they then hold
-// is left open.
+// is left open. The constants of the priorities are lent.
 pub fn examine(
     table: &[u64],
     many: usize,
@@ -63,11 +65,12 @@ pub fn examine(
     count: &mut [u64],
     leader: &mut [u64],
     slots: &mut [u64],
+    constants: &[u64; CONSTANT_COUNT],
 ) -> Verdict
     requires { ⌜ (0 < many) × (many ≤ mostSlots) × (length (now table) ≡ tableWords many) × (length (now slots) ≡ many) ⌝ }
     requires { ⌜ (many ≤ length (now keys)) × (many ≤ length (now weights)) × (many ≤ length (now ranking)) ⌝ }
     requires { ⌜ (many ≤ length (now left)) × (many ≤ length (now right)) × (many ≤ length (now rank)) ⌝ }
-    requires { ⌜ (many ≤ length (now count)) × (many ≤ length (now leader)) ⌝ }
+    requires { ⌜ (many ≤ length (now count)) × (many ≤ length (now leader)) × HoldsConstants (now constants) ⌝ }
     ensures { λ r. ⌜ r ≡ verdictOf many (now (table .entry)) ⌝ }
     ensures { λ _. ⌜ (soundWith many (now (table .entry)) ≡ true → now (keys .exit) ≡ overwrite (now (keys .entry)) 0 (contentsOf many (now (table .entry)) .keys)) ⌝ }
 {
@@ -91,6 +94,7 @@ pub fn examine(
         leader,
         slots,
         table,
+        constants,
     );
     conclude(same, n)
 }

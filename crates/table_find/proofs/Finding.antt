@@ -1,15 +1,15 @@
--- The search in a sound table: it finds the slot of each key held, and for any other key an empty slot or none.
+-- The keys of a fresh table: the search finds the slot of each key held, and any other key stands in no slot.
 -- Assumes valid contents and at least one slot.
 use mathlib.Core.Bool.{Bool, true, false}
 use mathlib.Core.List.{List, List·Permᴰ, Permᴰ·symm}
 use mathlib.Core.List.List·Permᴰ.{List·Permᴰ·nil, List·Permᴰ·cons, List·Permᴰ·swap, List·Permᴰ·trans}
-use mathlib.Core.Logic.{_⊎_, _≢_, inl, inr, ⊎-elim}
+use mathlib.Core.Logic.{_≢_}
 use mathlib.Core.Path.{_≡_, sym, ap, _∙_, subst}
 use Prim.Native.Nat.{ℕ, zero, suc, _<_, _≤_}
 use native.Mathlib.Omega.{arith}
-use lib.Dec.{ltb}
+use lib.Dec.{eqb, ltb}
 use lib.ListN.{length, getD, replicate, length-replicate, List·getD-eq-default}
-use borrow.Author.Tests.{ltb-true, ltb-false}
+use borrow.Author.Tests.{eqb-true, eqb-false, ltb-true, ltb-false}
 use Rattle.lists.specs.Lists.{first, member, sortBy, All, Pairwise}
 use Rattle.lists.proofs.Tests.{by-test, true-or-false}
 use Rattle.lists.proofs.Keep.{all-map, all-always}
@@ -26,7 +26,7 @@ use Rattle.table.specs.Contents.{Contents, IsKey, Valid}
 use Rattle.table.specs.Table.{homeIn, fresh}
 use Rattle.table.proofs.Words.{placedKeys, placed-length, fresh-length, fresh-key}
 use Rattle.table_find.specs.Find.{stopsAt, slotFound, OnlyAt}
-use Rattle.table_find.proofs.Searching.{stopsOn, stops-says, found-or-none}
+use Rattle.table_find.proofs.Searching.{stopsOn}
 use Rattle.table_find.proofs.Landing.{Absent, endOf, Lands, Room, absent-after, placed-lands}
 
 -- ---- lists
@@ -134,17 +134,11 @@ module _ (many : ℕ) (c : Contents) (some : 1 ≤ many) (valid : Valid many c) 
         only = λ other _ e. lands .only other (sym (key-in-fresh many c other) ∙ e);
       })
 
-  -- for a key that is not held, handed any number, it ends at an empty slot or finds none
-  pub absent-key-not-found : (k priority : ℕ) → 1 ≤ k → member k (c .keys) ≡ false
-      → ((slotFound many (fresh many c) k priority < many) × (keyIn (fresh many c) (slotFound many (fresh many c) k priority) ≡ 0))
-      ⊎ (slotFound many (fresh many c) k priority ≡ many)
-  unfolding stopsAt
-  absent-key-not-found k priority positive m =
-      let absent = other-key-absent k positive m in
-      let s = slotFound many (fresh many c) k priority in
-      ⊎-elim
-      (λ w.
-      inl
-      (w .0, ⊎-elim (λ e. e) (λ e. absurd (absent s (sym (key-in-fresh many c s) ∙ e))) (stops-says k (keyIn (fresh many c) s) (w .1))))
-      (λ w. inr w)
-      (found-or-none many (fresh many c) k priority some)
+  -- a key that is not held stands in no slot, but for 0, which stands in the empty ones
+  pub absent-key-nowhere : (k s : ℕ) → member k (c .keys) ≡ false → keyIn (fresh many c) s ≡ k → k ≡ 0
+  absent-key-nowhere k s m e =
+      by-test (eqb k 0)
+      (λ t. eqb-true k 0 t)
+      (λ t.
+      let d : k ≢ 0 = eqb-false k 0 t in
+      absurd (other-key-absent k (omega arith) m s (sym (key-in-fresh many c s) ∙ e)))

@@ -2,3 +2,4 @@
 pub mod Searching
 pub mod Landing
 pub mod Finding
+pub mod Claims

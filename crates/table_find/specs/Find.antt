@@ -24,6 +24,10 @@ slotFound many words key priority = first many (stopsAt words key) (probes many 
 unfoldable pub foundAt : ℕ → ℕ → Found
 foundAt many slot = cond (ltb slot many) (At slot) Nowhere
 
+-- The search of so many slots of these words for a key, handed a number.
+abbrev pub searched : ℕ → List ℕ → ℕ → ℕ → Found
+searched many words key priority = foundAt many (slotFound many words key priority)
+
 -- The slot, of so many, holds the key, and no other does: it is the key's slot.
 pub record OnlyAt (many : ℕ) (words : List ℕ) (key slot : ℕ) : Type 0 where
   pub below : slot < many

@@ -3,7 +3,7 @@ ghost use mathlib.Core.Path.{_≡_};
 ghost use Prim.Native.Nat.{_<_, _≤_};
 ghost use lib.ListN.{length};
 ghost use Rattle.table.specs.Layout.{tableWords};
-ghost use Rattle.table_find.specs.Find.{slotFound, foundAt};
+ghost use Rattle.table_find.specs.Find.{searched};
 use table::HEADER_WORDS;
 use table::KEY_FIELD;
 use table::SLOT_WORDS;
@@ -20,7 +20,7 @@ pub enum Found {
 // Internal to this library's crates: their tables have at least one slot, and the words of `many` slots.
 pub fn find(table: &[u64], many: usize, key: u64, priority: u64) -> Found
     requires { ⌜ (0 < many) × (tableWords many ≤ length (now table)) ⌝ }
-    ensures { λ r. ⌜ r ≡ foundAt many (slotFound many (now (table .entry)) key priority) ⌝ }
+    ensures { λ r. ⌜ r ≡ searched many (now (table .entry)) key priority ⌝ }
 {
     let mut at = priority::home(priority, many as u64) as usize;
     let mut left = many;

@@ -3,22 +3,29 @@ ghost use mathlib.Core.Path.{_≡_};
 ghost use mathlib.Core.List.{map};
 ghost use Prim.Native.Nat.{_<_, _≤_};
 ghost use lib.ListN.{length, take};
-ghost use Rattle.priority.specs.Priority.{priorityOf};
+ghost use Rattle.priority.specs.Priority.{HoldsConstants, priorityOf};
 ghost use Rattle.sorting.specs.ByWeight.{byWeight};
 ghost use Rattle.treap.specs.Treap.{top};
 ghost use Rattle.table.specs.Layout.{mostSlots, greatestOrder};
 ghost use Rattle.treap_columns.specs.Positions.{positions, weightAt, InOrder};
 ghost use Rattle.table_prepare.specs.Prepared.{Filled, Keys, Prepared};
+use priority::CONSTANT_COUNT;
 
 // Write at the start of `weights` the priorities of the keys, and at the start of `ranking` their positions, less one, by
 // falling priority. What `spare` then holds, and the other two lists past as many words as there are keys, is left open. Internal to
-// this library's crates.
-pub fn prioritize(keys: &[u64], weights: &mut [u64], ranking: &mut [u64], spare: &mut [u64])
-    requires { ⌜ (length (now keys) ≤ length (now weights)) × (length (now keys) ≤ length (now ranking)) × (length (now keys) ≤ length (now spare)) ⌝ }
+// this library's crates: they lend the constants of the priorities.
+pub fn prioritize(
+    keys: &[u64],
+    weights: &mut [u64],
+    ranking: &mut [u64],
+    spare: &mut [u64],
+    constants: &[u64; CONSTANT_COUNT],
+)
+    requires { ⌜ (length (now keys) ≤ length (now weights)) × (length (now keys) ≤ length (now ranking)) × (length (now keys) ≤ length (now spare)) × HoldsConstants (now constants) ⌝ }
     ensures { λ _. ⌜ take (length (now (keys .entry))) (now (weights .exit)) ≡ map priorityOf (now (keys .entry)) ⌝ }
     ensures { λ _. ⌜ take (length (now (keys .entry))) (now (ranking .exit)) ≡ byWeight (map priorityOf (now (keys .entry))) ⌝ }
 {
-    priority::priorities(keys, weights);
+    priority::priorities_from(constants, keys, weights);
     sorting::by_weight(weights, keys.len(), ranking, spare);
 }
 
@@ -49,7 +56,7 @@ pub fn fill(
 }
 
 // Make of the keys all that a table is written from; the position of the root. What `weights` and `ranking` then hold, and the columns past
-// as many words as there are keys, is left open. Internal to this library's crates.
+// as many words as there are keys, is left open. Internal to this library's crates: they lend the constants of the priorities.
 pub fn prepare(
     order: u64,
     keys: &[u64],
@@ -61,16 +68,17 @@ pub fn prepare(
     count: &mut [u64],
     leader: &mut [u64],
     slots: &mut [u64],
+    constants: &[u64; CONSTANT_COUNT],
 ) -> usize
     requires { ⌜ Keys order (now keys) ⌝ }
     requires { ⌜ (length (now keys) ≤ length (now weights)) × (length (now keys) ≤ length (now ranking)) ⌝ }
     requires { ⌜ (length (now keys) ≤ length (now left)) × (length (now keys) ≤ length (now right)) ⌝ }
     requires { ⌜ (length (now keys) ≤ length (now rank)) × (length (now keys) ≤ length (now count)) × (length (now keys) ≤ length (now leader)) ⌝ }
-    requires { ⌜ (0 < length (now slots)) × (length (now keys) ≤ length (now slots)) ⌝ }
+    requires { ⌜ (0 < length (now slots)) × (length (now keys) ≤ length (now slots)) × HoldsConstants (now constants) ⌝ }
     ensures { λ r. ⌜ Prepared order (now (keys .entry)) (now (left .exit)) (now (right .exit)) (now (rank .exit)) (now (count .exit)) (now (leader .exit)) (now (slots .exit)) r ⌝ }
 {
     let n = keys.len();
-    prioritize(keys, weights, ranking, left);
+    prioritize(keys, weights, ranking, left, constants);
     let root = fill(
         &weights[..n],
         order,

@@ -2,9 +2,11 @@
 ghost use mathlib.Core.Path.{_≡_};
 ghost use Prim.Native.Nat.{_<_, _≤_};
 ghost use lib.ListN.{length};
+ghost use Rattle.priority.specs.Priority.{HoldsConstants};
 ghost use Rattle.table.specs.Layout.{mostSlots, tableWords};
 ghost use Rattle.table.specs.Table.{fresh};
 ghost use Rattle.table_prepare.specs.Prepared.{Keys};
+use priority::CONSTANT_COUNT;
 
 // Write the table of the order and the keys, in lists that are at least as long as it has slots.
 fn write_within(
@@ -20,11 +22,12 @@ fn write_within(
     leader: &mut [u64],
     slots: &mut [u64],
     table: &mut [u64],
+    constants: &[u64; CONSTANT_COUNT],
 )
     requires { ⌜ Keys order (now keys) ⌝ }
     requires { ⌜ (0 < many) × (length (now keys) ≤ many) × (length (now table) ≡ tableWords many) × (many ≤ length (now slots)) ⌝ }
     requires { ⌜ (many ≤ length (now weights)) × (many ≤ length (now ranking)) × (many ≤ length (now left)) × (many ≤ length (now right)) ⌝ }
-    requires { ⌜ (many ≤ length (now rank)) × (many ≤ length (now count)) × (many ≤ length (now leader)) ⌝ }
+    requires { ⌜ (many ≤ length (now rank)) × (many ≤ length (now count)) × (many ≤ length (now leader)) × HoldsConstants (now constants) ⌝ }
     ensures { λ _. ⌜ now (table .exit) ≡ fresh many (record { order = order; keys = now (keys .entry) }) ⌝ }
 {
     table_assemble::write(
@@ -39,13 +42,20 @@ fn write_within(
         leader,
         &mut slots[..many],
         table,
+        constants,
     );
 }
 
 // A table of up to 64 slots.
-fn write_small(order: u64, keys: &[u64], many: usize, table: &mut [u64])
+fn write_small(
+    order: u64,
+    keys: &[u64],
+    many: usize,
+    table: &mut [u64],
+    constants: &[u64; CONSTANT_COUNT],
+)
     requires { ⌜ Keys order (now keys) ⌝ }
-    requires { ⌜ (0 < many) × (length (now keys) ≤ many) × (length (now table) ≡ tableWords many) × (many ≤ 64) ⌝ }
+    requires { ⌜ (0 < many) × (length (now keys) ≤ many) × (length (now table) ≡ tableWords many) × (many ≤ 64) × HoldsConstants (now constants) ⌝ }
     ensures { λ _. ⌜ now (table .exit) ≡ fresh many (record { order = order; keys = now (keys .entry) }) ⌝ }
 {
     let mut weights = [0u64; 64];
@@ -69,13 +79,20 @@ fn write_small(order: u64, keys: &[u64], many: usize, table: &mut [u64])
         &mut leader,
         &mut slots,
         table,
+        constants,
     );
 }
 
 // A table of up to 512 slots.
-fn write_medium(order: u64, keys: &[u64], many: usize, table: &mut [u64])
+fn write_medium(
+    order: u64,
+    keys: &[u64],
+    many: usize,
+    table: &mut [u64],
+    constants: &[u64; CONSTANT_COUNT],
+)
     requires { ⌜ Keys order (now keys) ⌝ }
-    requires { ⌜ (0 < many) × (length (now keys) ≤ many) × (length (now table) ≡ tableWords many) × (many ≤ 512) ⌝ }
+    requires { ⌜ (0 < many) × (length (now keys) ≤ many) × (length (now table) ≡ tableWords many) × (many ≤ 512) × HoldsConstants (now constants) ⌝ }
     ensures { λ _. ⌜ now (table .exit) ≡ fresh many (record { order = order; keys = now (keys .entry) }) ⌝ }
 {
     let mut weights = [0u64; 512];
@@ -99,13 +116,20 @@ fn write_medium(order: u64, keys: &[u64], many: usize, table: &mut [u64])
         &mut leader,
         &mut slots,
         table,
+        constants,
     );
 }
 
 // A table of up to 4,096 slots.
-fn write_large(order: u64, keys: &[u64], many: usize, table: &mut [u64])
+fn write_large(
+    order: u64,
+    keys: &[u64],
+    many: usize,
+    table: &mut [u64],
+    constants: &[u64; CONSTANT_COUNT],
+)
     requires { ⌜ Keys order (now keys) ⌝ }
-    requires { ⌜ (0 < many) × (length (now keys) ≤ many) × (length (now table) ≡ tableWords many) × (many ≤ 4096) ⌝ }
+    requires { ⌜ (0 < many) × (length (now keys) ≤ many) × (length (now table) ≡ tableWords many) × (many ≤ 4096) × HoldsConstants (now constants) ⌝ }
     ensures { λ _. ⌜ now (table .exit) ≡ fresh many (record { order = order; keys = now (keys .entry) }) ⌝ }
 {
     let mut weights = [0u64; 4096];
@@ -129,22 +153,30 @@ fn write_large(order: u64, keys: &[u64], many: usize, table: &mut [u64])
         &mut leader,
         &mut slots,
         table,
+        constants,
     );
 }
 
-// Write the table of the order and the keys over whatever it held. Internal to this library's crates.
-pub fn write(order: u64, keys: &[u64], many: usize, table: &mut [u64])
+// Write the table of the order and the keys over whatever it held. Internal to this library's crates: they lend the constants of the
+// priorities.
+pub fn write(
+    order: u64,
+    keys: &[u64],
+    many: usize,
+    table: &mut [u64],
+    constants: &[u64; CONSTANT_COUNT],
+)
     requires { ⌜ Keys order (now keys) ⌝ }
-    requires { ⌜ (0 < many) × (length (now keys) ≤ many) × (length (now table) ≡ tableWords many) × (many ≤ mostSlots) ⌝ }
+    requires { ⌜ (0 < many) × (length (now keys) ≤ many) × (length (now table) ≡ tableWords many) × (many ≤ mostSlots) × HoldsConstants (now constants) ⌝ }
     ensures { λ _. ⌜ now (table .exit) ≡ fresh many (record { order = order; keys = now (keys .entry) }) ⌝ }
 {
     if many <= 64 {
-        write_small(order, keys, many, table);
+        write_small(order, keys, many, table, constants);
         return;
     }
     if many <= 512 {
-        write_medium(order, keys, many, table);
+        write_medium(order, keys, many, table, constants);
         return;
     }
-    write_large(order, keys, many, table);
+    write_large(order, keys, many, table, constants);
 }

@@ -8,8 +8,7 @@ use lib.ListN.{length}
 use borrow.Author.Tests.{not-true, not-false, eq-eqb, ne-eqb}
 use borrow.Author.Needs.{needs}
 use Rattle.table_limits.specs.Lengths.{slotsFor}
-use Rattle.table_judge.specs.Judge.{isSound}
-use Rattle.call_replies.specs.declared.Refusal.the-variants.{WrongLength, NotRising, NotSound}
+use Rattle.call_replies.specs.declared.Refusal.the-variants.{WrongLength, NotRising}
 use Rattle.call_replies.specs.declared.Batched.the-variants.{Blocks, Refused}
 use Rattle.call_batch.specs.Answering.{checked}
 use Rattle.call_batch.proofs.check.Statement.{statement}
@@ -26,13 +25,9 @@ module _ (words : List ℕ) (rises : Bool) where
     unfolding checked
     refused-keys e = rw (ne-eqb (slotsFor (length words)) 0 some, e)
 
-    refused-table : rises ≡ true → isSound words ≡ false → Refused NotSound ≡ checked words rises
+    no-refusal : rises ≡ true → Blocks 0 ≡ checked words rises
     unfolding checked
-    refused-table e t = rw (ne-eqb (slotsFor (length words)) 0 some, e, t)
-
-    no-refusal : rises ≡ true → isSound words ≡ true → Blocks 0 ≡ checked words rises
-    unfolding checked
-    no-refusal e t = rw (ne-eqb (slotsFor (length words)) 0 some, e, t)
+    no-refusal e = rw (ne-eqb (slotsFor (length words)) 0 some, e)
 
 slots-for-requires : tie.Need-slots-for-requires
 slots-for-requires c κs = search needs
@@ -47,23 +42,11 @@ returns-2 c =
     let args = c .before .before .before .before .args in
     refused-keys (args .table .now) (args .rises) (λ e. c .before .if1 .left (c .before .before .slots-for .ensures ∙ e)) (not-true (args .rises) (c .if2 .taken))
 
-judge-requires : tie.Need-judge-requires
-judge-requires c κs = search needs
-
 returns-3 : tie.Need-returns-3
 returns-3 c =
-    let p = c .before .before .before in
-    let args = p .before .before .before .args in
-    refused-table (args .table .now) (args .rises) (λ e. p .if1 .left (p .before .slots-for .ensures ∙ e)) (not-false (args .rises) (c .before .before .if2 .left))
-    (sym (c .before .judge .ensures) ∙ not-true (c .before .judge .result) (c .if3 .taken))
-
-returns-4 : tie.Need-returns-4
-returns-4 c =
-    let p = c .before .before .before in
-    let args = p .before .before .before .args in
-    no-refusal (args .table .now) (args .rises) (λ e. p .if1 .left (p .before .slots-for .ensures ∙ e)) (not-false (args .rises) (c .before .before .if2 .left))
-    (sym (c .before .judge .ensures) ∙ not-false (c .before .judge .result) (c .if3 .left))
+    let args = c .before .before .before .before .args in
+    no-refusal (args .table .now) (args .rises) (λ e. c .before .if1 .left (c .before .before .slots-for .ensures ∙ e)) (not-false (args .rises) (c .if2 .left))
 
 pub check-spec : {M : Type 1} → statement M
 check-spec =
-    tie.close (tie.spec slots-for-requires returns returns-2 judge-requires returns-3 returns-4)
+    tie.close (tie.spec slots-for-requires returns returns-2 returns-3)

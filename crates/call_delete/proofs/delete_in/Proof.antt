@@ -31,7 +31,7 @@ delete-known-requires c κs =
     let e = c .before .before in
     let q = e .before .before .before in
     let pre = q .before .before .before .before .before .pre in
-    (q .know .ensures .1 (not-false (q .know .result) (e .if1 .left)), pre .3)
+    (q .know .ensures .1 (not-false (q .know .result) (e .if1 .left)), (pre .3, pre .5))
 
 same-length-3 : tie.Need-same-length-3
 same-length-3 c = search needs

@@ -9,6 +9,7 @@ use lib.ListN.{length, getD, take}
 use borrow.Author.Tests.{not-true, not-false}
 use Rattle.lists.specs.Lists.{member, overwrite}
 use Rattle.lists.proofs.Start.{starts-with, as-long}
+use Rattle.priority.specs.Priority.{priorityOf}
 use Rattle.table.specs.Layout.{sizeWord}
 use Rattle.table.specs.Contents.{Contents, Valid}
 use Rattle.table.specs.Table.{fresh, contentsOf}
@@ -24,6 +25,7 @@ use Rattle.call_delete.proofs.delete_known.Statement.{statement}
 use Rattle.call_delete.proofs.delete_known.Tie as tie
 use Rattle.call_delete.proofs.delete_known.Reads as reads
 use Rattle.call_delete.proofs.delete_known.Lts as lts
+use Rattle.priority.proofs.priority_from.Reads as priority-from-reads
 use Rattle.call_sets.proofs.take_out.Reads as take-out-reads
 use Rattle.table_entries.proofs.holds.Reads as holds-reads
 use Rattle.table_entries.proofs.rank_of.Reads as rank-of-reads
@@ -31,7 +33,7 @@ use Rattle.table_write.proofs.write.Reads as write-reads
 
 -- ---- the table as it came
 abbrev begun : tie.After-holds → tie.Start
-begun p = p .before .before .before .before
+begun p = p .before .before .before .before .before
 
 abbrev many : tie.After-holds → ℕ
 many p = begun p .args .many
@@ -55,7 +57,11 @@ known : (p : tie.After-holds) → Known (many p) (words p) (listed p)
 known p = begun p .pre .0
 
 told : (p : tie.After-holds) → Facts (many p) (words p) (listed p)
-told p = facts (many p) (words p) (listed p) (known p) (λ i. omega (arith, p .before .before .before .slice-known .given i))
+told p = facts (many p) (words p) (listed p) (known p) (λ i. omega (arith, p .before .before .before .before .slice-known .given i))
+
+-- the number handed to the searches
+own : (p : tie.After-holds) → p .before .before .priority-from .result ≡ priorityOf (key p)
+own p = p .before .before .priority-from .ensures
 
 held-or-not : (p : tie.After-holds) (b : Bool) → p .holds .result ≡ b → member (key p) (shown p .keys) ≡ b
 held-or-not p b e = sym (p .holds .ensures) ∙ e
@@ -125,6 +131,9 @@ known-then p =
     known-again (many q) (table-then p) (rest o) (goal q) (known q .some) (known q .most) (goal-valid q) (written p)
     (ap (λ (n : ℕ). take n (rest o)) (sym (left-size o)) ∙ taken o)
 
+priority-from-requires : tie.Need-priority-from-requires
+priority-from-requires c κs = search needs
+
 holds-requires : tie.Need-holds-requires
 holds-requires c κs = search needs
 
@@ -136,7 +145,7 @@ returns c =
     let q = c .before in
     let k = known q in
     let meets =
-    refused-absent (words q) (key q) (many q) (k .some) (k .most) (k .long) (begun q .pre .1) (k .sound)
+    refused-absent (words q) (key q) (many q) (k .some) (k .most) (k .long) (begun q .pre .1 .0) (k .sound)
     (held-or-not q false (not-true (q .holds .result) (c .if1 .taken)))
     in
     (meets .0, (meets .1, k))
@@ -151,7 +160,7 @@ rank-of-requires : tie.Need-rank-of-requires
 rank-of-requires c κs =
     let e = c .before .before .before in
     let k = known (e .before) in
-    (k .some, k .most, k .long, k .sound, held e)
+    (k .some, k .most, k .long, k .sound, held e, own (e .before))
 
 take-out-requires : tie.Need-take-out-requires
 take-out-requires c κs =
@@ -170,7 +179,7 @@ write-requires c κs =
     let q = asked-at o in
     let right = goal-valid q in (
       writable-with (many q) (words q) (take (o .take-out .result) (rest o)) (goal q .keys) (valid-keys (many q) (goal q) (known q .most) right) (taken o),
-      (known q .some, subst (λ (ks : List ℕ). length ks ≤ many q) (sym (taken o)) (right .keys-fit), known q .long, known q .most),
+      (known q .some, subst (λ (ks : List ℕ). length ks ≤ many q) (sym (taken o)) (right .keys-fit), known q .long, known q .most, begun q .pre .1 .1),
     )
 
 same-length-2 : tie.Need-same-length-2
@@ -187,7 +196,7 @@ returns-2 c =
     let k = known q in
     let rank = o .before .before .rank-of in
     let meets =
-    accepted (words q) (key q) (many q) (k .some) (k .most) (k .long) (begun q .pre .1) (k .sound) (held (held-at o)) (rank .result)
+    accepted (words q) (key q) (many q) (k .some) (k .most) (k .long) (begun q .pre .1 .0) (k .sound) (held (held-at o)) (rank .result)
     (ranked (rank .result) (shown q) (shown q) (key q) (rank .ensures) refl) (table-then w) (written w)
     in
     (meets .0, (meets .1, known-then w))
@@ -196,6 +205,7 @@ pub delete-known-spec : {M : Type 1} → statement M
 delete-known-spec =
     tie.close
     (tie.spec
+    priority-from-requires
     holds-requires
     same-length
     returns

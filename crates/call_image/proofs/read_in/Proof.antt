@@ -1,7 +1,7 @@
 -- `call_image::read_in` meets its contract. Assumes nothing.
 use mathlib.Core.Bool.{true}
 use mathlib.Core.List.{List}
-use mathlib.Core.Path.{_≡_, sym, ap, _∙_, subst}
+use mathlib.Core.Path.{_≡_, sym, ap, _∙_}
 use Prim.Native.Nat.{ℕ, _≤_}
 use native.Mathlib.Omega.{arith}
 use lib.ListN.{length, take}
@@ -115,7 +115,7 @@ write-requires c κs =
     let q = read-at p in
     let start = begun q in (
       image-keys (bytes q) (valid p) (g .get .result) (g .get .ensures) (take (size p) (listed p)) (taken p),
-      (start .pre .0, omega (arith, number p, ap length (taken p), g .before .if1 .left), start .pre .2, start .pre .1),
+      (start .pre .0, omega (arith, number p, ap length (taken p), g .before .if1 .left), start .pre .2, start .pre .1, start .pre .4),
     )
 
 same-length-3 : tie.Need-same-length-3

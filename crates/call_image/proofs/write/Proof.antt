@@ -9,8 +9,7 @@ use Rattle.call_image.proofs.write.Statement.{statement}
 use Rattle.call_image.proofs.write.Tie as tie
 use Rattle.call_image.proofs.write.Reads as reads
 use Rattle.call_image.proofs.write.Lts as lts
-use Rattle.call_image.proofs.write_few.Reads as write-few-reads
-use Rattle.call_image.proofs.write_many.Reads as write-many-reads
+use Rattle.call_image.proofs.write_sized.Reads as write-sized-reads
 use Rattle.table_limits.proofs.slots_for.Reads as slots-for-reads
 
 slots-for-requires : tie.Need-slots-for-requires
@@ -21,12 +20,12 @@ returns c =
     let args = c .before .before .before .before .args in
     refused-length (args .table .now) (args .output .now) (sym (c .before .slots-for .ensures) ∙ c .if1 .taken)
 
-write-few-requires : tie.Need-write-few-requires
-write-few-requires c κs =
-    let words = c .before .before .before .before .before .before .args .table .now in
-    let here = c .before .before .before .slots-for .ensures in
-    let right = slots-for-some (length words) (λ e. c .before .before .if1 .left (here ∙ e)) in
-    (omega (arith, here, right .some), c .before .if2 .taken, omega (arith, here, right .long))
+write-sized-requires : tie.Need-write-sized-requires
+write-sized-requires c κs =
+    let words = c .before .before .before .before .before .args .table .now in
+    let here = c .before .before .slots-for .ensures in
+    let right = slots-for-some (length words) (λ e. c .before .if1 .left (here ∙ e)) in
+    (omega (arith, here, right .some), omega (arith, here, right .within), omega (arith, here, right .long))
 
 same-length : tie.Need-same-length
 same-length c = search needs
@@ -34,28 +33,5 @@ same-length c = search needs
 returns-2 : tie.Need-returns-2
 returns-2 c = search needs
 
-write-many-requires : tie.Need-write-many-requires
-write-many-requires c κs =
-    let words = c .before .before .before .before .before .before .args .table .now in
-    let here = c .before .before .before .slots-for .ensures in
-    let right = slots-for-some (length words) (λ e. c .before .before .if1 .left (here ∙ e)) in
-    (omega (arith, here, right .some), omega (arith, here, right .within), omega (arith, here, right .long))
-
-same-length-2 : tie.Need-same-length-2
-same-length-2 c = search needs
-
-returns-3 : tie.Need-returns-3
-returns-3 c = search needs
-
 pub write-spec : {M : Type 1} → statement M
-write-spec =
-    tie.close
-    (tie.spec
-    slots-for-requires
-    returns
-    write-few-requires
-    same-length
-    returns-2
-    write-many-requires
-    same-length-2
-    returns-3)
+write-spec = tie.close (tie.spec slots-for-requires returns write-sized-requires same-length returns-2)

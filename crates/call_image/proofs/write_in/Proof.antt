@@ -1,6 +1,6 @@
 -- `call_image::write_in` meets its contract. Assumes nothing.
 use mathlib.Core.List.{List}
-use mathlib.Core.Path.{_≡_, sym, ap, _∙_}
+use mathlib.Core.Path.{sym, _∙_}
 use Prim.Native.Nat.{ℕ, _≤_}
 use native.Mathlib.Omega.{arith}
 use lib.ListN.{length, take}
@@ -70,7 +70,7 @@ write-requires : tie.Need-write-requires
 write-requires c κs =
     let p = c .before .before .before in
     let start = begun (judged-at p) in
-    examined-writable (start .args .many) (start .args .table .now) (start .args .keys .now) (listed p) (size p) (start .pre .1) (found p)
+    (examined-writable (start .args .many) (start .args .table .now) (start .args .keys .now) (listed p) (size p) (start .pre .1) (found p), start .pre .4)
 
 same-length-2 : tie.Need-same-length-2
 same-length-2 c = search needs

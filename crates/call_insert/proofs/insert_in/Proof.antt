@@ -33,7 +33,7 @@ insert-known-requires c κs =
     let e = c .before .before in
     let q = e .before .before .before in
     let pre = q .before .before .before .before .before .pre in
-    (q .know .ensures .1 (not-false (q .know .result) (e .if1 .left)), (pre .3, λ absent (room : _ < _). omega (arith, pre .4, e .before .before .keys .given)))
+    (q .know .ensures .1 (not-false (q .know .result) (e .if1 .left)), (pre .3, λ absent (room : _ < _). omega (arith, pre .4, e .before .before .keys .given), pre .5))
 
 same-length-3 : tie.Need-same-length-3
 same-length-3 c = search needs

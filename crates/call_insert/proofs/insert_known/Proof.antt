@@ -8,6 +8,7 @@ use lib.Seq.{length-take-le}
 use lib.ListN.{length, getD, take}
 use Rattle.lists.specs.Lists.{Rising, member}
 use Rattle.lists.proofs.Start.{as-long}
+use Rattle.priority.specs.Priority.{priorityOf}
 use Rattle.table.specs.Layout.{sizeWord}
 use Rattle.table.specs.Contents.{Contents, Valid}
 use Rattle.table.specs.Table.{fresh, contentsOf}
@@ -23,6 +24,7 @@ use Rattle.call_insert.proofs.insert_known.Statement.{statement}
 use Rattle.call_insert.proofs.insert_known.Tie as tie
 use Rattle.call_insert.proofs.insert_known.Reads as reads
 use Rattle.call_insert.proofs.insert_known.Lts as lts
+use Rattle.priority.proofs.priority_from.Reads as priority-from-reads
 use Rattle.call_sets.proofs.put_in.Reads as put-in-reads
 use Rattle.table_entries.proofs.holds.Reads as holds-reads
 use Rattle.table_entries.proofs.rank_of.Reads as rank-of-reads
@@ -30,7 +32,7 @@ use Rattle.table_write.proofs.write.Reads as write-reads
 
 -- ---- the table as it came
 abbrev begun : tie.After-holds → tie.Start
-begun p = p .before .before .before .before
+begun p = p .before .before .before .before .before
 
 abbrev many : tie.After-holds → ℕ
 many p = begun p .args .many
@@ -54,7 +56,11 @@ known : (p : tie.After-holds) → Known (many p) (words p) (listed p)
 known p = begun p .pre .0
 
 told : (p : tie.After-holds) → Facts (many p) (words p) (listed p)
-told p = facts (many p) (words p) (listed p) (known p) (λ i. omega (arith, p .before .before .before .slice-known .given i))
+told p = facts (many p) (words p) (listed p) (known p) (λ i. omega (arith, p .before .before .before .before .slice-known .given i))
+
+-- the number handed to the searches
+own : (p : tie.After-holds) → p .before .before .priority-from .result ≡ priorityOf (key p)
+own p = p .before .before .priority-from .ensures
 
 held-or-not : (p : tie.After-holds) (b : Bool) → p .holds .result ≡ b → member (key p) (shown p .keys) ≡ b
 held-or-not p b e = sym (p .holds .ensures) ∙ e
@@ -131,6 +137,9 @@ known-then p =
     (written p)
     (ap (λ (n : ℕ). take n (put-before p .put-in .last .0)) long ∙ taken (put-before p))
 
+priority-from-requires : tie.Need-priority-from-requires
+priority-from-requires c κs = search needs
+
 holds-requires : tie.Need-holds-requires
 holds-requires c κs = search needs
 
@@ -188,7 +197,7 @@ write-requires c κs =
     let q = after-put p in
     let right = goal-valid (put-at p) in (
       writable-with (many q) (words q) (take (size q + 1) (p .put-in .last .0)) (goal q .keys) (valid-keys (many q) (goal q) (known q .most) right) (taken p),
-      (known q .some, subst (λ (ks : List ℕ). length ks ≤ many q) (sym (taken p)) (right .keys-fit), known q .long, known q .most),
+      (known q .some, subst (λ (ks : List ℕ). length ks ≤ many q) (sym (taken p)) (right .keys-fit), known q .long, known q .most, begun q .pre .1 .2),
     )
 
 rank-of-requires : tie.Need-rank-of-requires
@@ -202,6 +211,7 @@ rank-of-requires c κs =
       k .sound,
       ap (λ (c : Contents). member (key q) (c .keys)) (shows (many q) (goal q) (known q .some) (goal-valid (put-at (put-before w))) (table-then w) (written w))
           ∙ joined-member (key q) (shown q .keys),
+      own q,
     )
 
 same-length-3 : tie.Need-same-length-3
@@ -227,6 +237,7 @@ pub insert-known-spec : {M : Type 1} → statement M
 insert-known-spec =
     tie.close
     (tie.spec
+    priority-from-requires
     holds-requires
     same-length
     returns

@@ -81,7 +81,7 @@ insert-known-requires c κs =
     let p = c .before .before .before in
     let start = begun p in (
       known p,
-      (omega arith, λ absent (room : _ < _). omega (arith, start .pre .1 .1, room-left (key p) (contentsOf (many p) (words p) .keys) (load-key p) (start .pre .1 .0) (rises p) absent)),
+      (omega arith, λ absent (room : _ < _). omega (arith, start .pre .1 .1, room-left (key p) (contentsOf (many p) (words p) .keys) (load-key p) (start .pre .1 .0) (rises p) absent), start .pre .1 .2),
     )
 
 same-length : tie.Need-same-length

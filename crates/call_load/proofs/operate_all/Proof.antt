@@ -13,11 +13,11 @@ use Rattle.call_load.proofs.operate.Reads as operate-reads
 use Rattle.generator.proofs.next.Reads as next-reads
 
 abbrev Inv-loop : tie.InvT-loop
-Inv-loop table₀ many seed count keys₀ state₀ left₀ table keys state left =
+Inv-loop table₀ many seed count keys₀ constants state₀ left₀ table keys state left =
     Under many table₀ seed count table keys state left × (length table ≡ length table₀) × (length keys ≡ length keys₀)
 
 abbrev μ-loop : tie.MeasureT-loop
-μ-loop table₀ many seed count keys₀ state₀ left₀ table keys state left = left
+μ-loop table₀ many seed count keys₀ constants state₀ left₀ table keys state left = left
 
 loop-holds : tie.Need-loop-holds Inv-loop μ-loop
 loop-holds c =
@@ -34,8 +34,9 @@ next-requires c κs = search needs
 
 operate-requires : tie.Need-operate-requires Inv-loop μ-loop
 operate-requires c κs =
-    let under = c .before .before .before .before .loop .inv .0 in
-    (under .known, (under .ours, under .room))
+    let p = c .before .before .before .before in
+    let under = p .loop .inv .0 in
+    (under .known, (under .ours, under .room, p .before .before .before .pre .1 .2))
 
 sub-left : tie.Need-sub-left Inv-loop μ-loop
 sub-left c = search needs

@@ -9,8 +9,7 @@ use Rattle.call_range.proofs.range.Statement.{statement}
 use Rattle.call_range.proofs.range.Tie as tie
 use Rattle.call_range.proofs.range.Reads as reads
 use Rattle.call_range.proofs.range.Lts as lts
-use Rattle.call_range.proofs.range_few.Reads as range-few-reads
-use Rattle.call_range.proofs.range_many.Reads as range-many-reads
+use Rattle.call_range.proofs.range_sized.Reads as range-sized-reads
 use Rattle.table_limits.proofs.slots_for.Reads as slots-for-reads
 
 slots-for-requires : tie.Need-slots-for-requires
@@ -27,31 +26,18 @@ returns-2 c =
     let slots = c .before .before .slots-for in
     refused-order (args .table .now) (args .low) (args .high) (args .output .now) (λ e. c .before .if1 .left (slots .ensures ∙ e)) (c .if2 .taken)
 
-range-few-requires : tie.Need-range-few-requires
-range-few-requires c κs =
-    let words = c .before .before .before .before .before .before .before .args .table .now in
-    let here = c .before .before .before .before .slots-for .ensures in
-    let right = slots-for-some (length words) (λ e. c .before .before .before .if1 .left (here ∙ e)) in
-    (omega (arith, here, right .some), c .before .if3 .taken, omega (arith, here, right .long), c .before .before .if2 .left)
+range-sized-requires : tie.Need-range-sized-requires
+range-sized-requires c κs =
+    let words = c .before .before .before .before .before .before .args .table .now in
+    let here = c .before .before .before .slots-for .ensures in
+    let right = slots-for-some (length words) (λ e. c .before .before .if1 .left (here ∙ e)) in
+    (omega (arith, here, right .some), omega (arith, here, right .within), omega (arith, here, right .long), c .before .if2 .left)
 
 same-length : tie.Need-same-length
 same-length c = search needs
 
 returns-3 : tie.Need-returns-3
 returns-3 c = search needs
-
-range-many-requires : tie.Need-range-many-requires
-range-many-requires c κs =
-    let words = c .before .before .before .before .before .before .before .args .table .now in
-    let here = c .before .before .before .before .slots-for .ensures in
-    let right = slots-for-some (length words) (λ e. c .before .before .before .if1 .left (here ∙ e)) in
-    (omega (arith, here, right .some), omega (arith, here, right .within), omega (arith, here, right .long), c .before .before .if2 .left)
-
-same-length-2 : tie.Need-same-length-2
-same-length-2 c = search needs
-
-returns-4 : tie.Need-returns-4
-returns-4 c = search needs
 
 pub range-spec : {M : Type 1} → statement M
 range-spec =
@@ -60,9 +46,6 @@ range-spec =
     slots-for-requires
     returns
     returns-2
-    range-few-requires
+    range-sized-requires
     same-length
-    returns-3
-    range-many-requires
-    same-length-2
-    returns-4)
+    returns-3)

@@ -17,7 +17,7 @@ use Rattle.call_step.proofs.step_at.Statement.{statement}
 use Rattle.call_step.proofs.step_at.Tie as tie
 use Rattle.call_step.proofs.step_at.Reads as reads
 use Rattle.call_step.proofs.step_at.Lts as lts
-use Rattle.table_judge.proofs.judge.Reads as judge-reads
+use Rattle.call_step.proofs.judge.Reads as judge-reads
 use Rattle.table_limits.proofs.slots_for.Reads as slots-for-reads
 use Rattle.table_least.proofs.least_within.Reads as least-within-reads
 use Rattle.call_step.proofs.place_after.Reads as place-after-reads

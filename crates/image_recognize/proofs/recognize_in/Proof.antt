@@ -1,14 +1,13 @@
 -- `image_recognize::recognize_in` meets its contract. Assumes nothing.
-use mathlib.Core.Bool.{Bool, true, false}
+use mathlib.Core.Bool.{true}
 use mathlib.Core.List.{List}
 use mathlib.Core.Path.{_≡_, sym, ap, ap₂, _∙_, subst}
 use Prim.Native.Nat.{ℕ, _≤_}
 use native.Mathlib.Omega.{arith}
-use lib.Dec.{ltb}
 use lib.ListN.{length, take}
 use lib.Seq.{length-take-le}
 use borrow.Author.Tests.{not-true, not-false}
-use Rattle.lists.specs.Lists.{All, overwrite, sortBy, same, lies}
+use Rattle.lists.specs.Lists.{All, overwrite, same, lies}
 use Rattle.lists.proofs.Keep.{all-of-indices}
 use Rattle.lists.proofs.Start.{starts-with, as-long}
 use Rattle.priority.specs.Priority.{priorityOf}
@@ -18,7 +17,7 @@ use Rattle.table.specs.Contents.{risingKeys}
 use Rattle.table_prepare.specs.Prepared.{Keys}
 use Rattle.image_parts.specs.Written.{writtenTo}
 use Rattle.image.specs.Layout.{headerBytes, IsByte}
-use Rattle.image.specs.Image.{imageOf, readImage, isImage}
+use Rattle.image.specs.Image.{imageOf, readImage}
 use Rattle.image_collect.specs.Reading.{readable, keysOf, RoomFor}
 use Rattle.image_collect.proofs.Readable.{unreadable, readable-header, readable-few, readable-fits}
 use Rattle.image_recognize.proofs.Recognizing.{orderShown, shown-image, stop, wrong-order, not-rising, wrong-length, differs, can-be-written, is-one, accepted, told-readable, told-broken, told-number, sorted-shown, shown-size, written-over}
@@ -258,9 +257,11 @@ slice-aggregate-write c = sym (length-take-le _ _ (inside (sorted-at (c .before)
 write-requires : tie.Need-write-requires
 write-requires c κs =
     let p = c .before .before in
-    let q = sorted-at p in
-    subst (Keys (ordered-at q .before .before .get .result)) (sym (taken q))
-    (subst (λ (order : ℕ). Keys order (shown (at q))) (sym (ordered-at q .before .before .get .ensures)) (keys-right p))
+    let q = sorted-at p in (
+      subst (Keys (ordered-at q .before .before .get .result)) (sym (taken q))
+          (subst (λ (order : ℕ). Keys order (shown (at q))) (sym (ordered-at q .before .before .get .ensures)) (keys-right p)),
+      begun (read-at (at q)) .pre .0 .2,
+    )
 
 same-length-8 : tie.Need-same-length-8
 same-length-8 c = search needs

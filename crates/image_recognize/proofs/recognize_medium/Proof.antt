@@ -25,7 +25,7 @@ slice-aggregate-recognize-within-5 c = search needs
 recognize-within-requires : tie.Need-recognize-within-requires
 recognize-within-requires c κs =
     let pre = c .before .before .before .before .before .before .before .before .pre in
-    ((omega arith, pre .0), (λ n few h. omega (arith, pre .0), λ n few h. omega (arith, pre .0), λ n few h. omega (arith, pre .0), λ n few h. omega (arith, pre .0), pre .1))
+    ((omega arith, pre .0, pre .2), (λ n few h. omega (arith, pre .0), λ n few h. omega (arith, pre .0), λ n few h. omega (arith, pre .0), λ n few h. omega (arith, pre .0), pre .1))
 
 same-length : tie.Need-same-length
 same-length c = search needs

@@ -19,7 +19,7 @@ slice-aggregate-recognize-in c =
 recognize-in-requires : tie.Need-recognize-in-requires
 recognize-in-requires c κs =
     let pre = c .before .before .before .before .before .before .before .before .before .before .before .before .before .pre in
-    ((pre .0 .0, length-take-le _ _ (pre .0 .1)), pre .1)
+    ((pre .0 .0, length-take-le _ _ (pre .0 .1), pre .0 .2), pre .1)
 
 same-length : tie.Need-same-length
 same-length c = search needs

@@ -33,8 +33,8 @@ slice-aggregate-write-8 c = search needs
 write-requires : tie.Need-write-requires
 write-requires c κs =
     let pre = c .before .before .before .before .before .before .before .before .before .before .before .pre in
-    let room = pre .1 in
-    (pre .0, ((room, room, room), ((room, room), (room, room, room))))
+    let room = pre .1 .0 in
+    (pre .0, ((room, room, room), ((room, room), (room, room, room, pre .1 .1))))
 
 same-length : tie.Need-same-length
 same-length c = search needs

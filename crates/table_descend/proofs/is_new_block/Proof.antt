@@ -42,8 +42,8 @@ returns-4 c =
 sized : (p : tie.After-shared-slice-known) → WordSized (p .before .args .table .now)
 sized p i = omega (arith, p .shared-slice-known .given i)
 
-slot-of-requires : tie.Need-slot-of-requires
-slot-of-requires c κs =
+slot-reached-requires : tie.Need-slot-reached-requires
+slot-reached-requires c κs =
     let link = c .before .before in
     let known = link .before .before .before in
     let start = known .before in
@@ -66,9 +66,9 @@ level-of-requires c κs =
     let args = start .args in
     let pre = start .pre .0 in
     let valid = sound-valid (args .many) (args .table .now) (pre .1 .sound) (sized known) in
-    key-in-slot (args .many) (args .table .now) (pre .0) (pre .1 .sound) (sized known) (pre .1 .few) (pre .1 .long) (link .next-of .result) (c .slot-of .result)
+    key-in-slot (args .many) (args .table .now) (pre .0) (pre .1 .few) (pre .1 .sound) (sized known) (pre .1 .long) (link .next-of .result) (c .slot-reached .result)
     (link-held (args .many) (contentsOf (args .many) (args .table .now)) valid (args .at) (pre .2) (args .other) (link .next-of .result) (link .next-of .ensures) (c .before .if4 .left))
-    (c .slot-of .ensures)
+    (c .slot-reached .ensures)
 
 returns-5 : tie.Need-returns-5
 returns-5 c =
@@ -88,6 +88,6 @@ is-new-block-spec =
     next-of-requires
     returns-3
     returns-4
-    slot-of-requires
+    slot-reached-requires
     level-of-requires
     returns-5)

@@ -46,7 +46,7 @@ in-slot : (p : tie.After-shared-slice-known Inv-loop μ-loop) (key slot : ℕ) �
 in-slot p key slot m only =
     let start = p .before in
     let pre = start .pre .0 in
-    key-in-slot (start .args .many) (start .args .table .now) (pre .0) (pre .3) (sized p) (pre .1) (pre .2) key slot m only
+    key-in-slot (start .args .many) (start .args .table .now) (pre .0) (pre .1) (pre .3) (sized p) (pre .2) key slot m only
 
 -- ---- the ways back
 abbrev begun : tie.In-loop Inv-loop μ-loop → tie.After-shared-slice-known Inv-loop μ-loop
@@ -72,13 +72,13 @@ root-is-held p =
     let start = known .before in
     root-held (start .args .many) (shows start) (valid known) _ (root-is (start .args .many) (start .args .table .now) (start .pre .0 .3)) (p .if1 .left)
 
-slot-of-requires : tie.Need-slot-of-requires Inv-loop μ-loop
-slot-of-requires c κs =
+slot-reached-requires : tie.Need-slot-reached-requires Inv-loop μ-loop
+slot-reached-requires c κs =
     let pre = c .before .before .before .pre .0 in
     (pre .0, pre .1, pre .2, pre .3, root-is-held c, pre .4)
 
 level-of-requires : tie.Need-level-of-requires Inv-loop μ-loop
-level-of-requires c κs = in-slot (c .before .before .before) _ _ (root-is-held (c .before)) (c .slot-of .ensures)
+level-of-requires c κs = in-slot (c .before .before .before) _ _ (root-is-held (c .before)) (c .slot-reached .ensures)
 
 first-block-requires : tie.Need-first-block-requires Inv-loop μ-loop
 first-block-requires c κs = tt
@@ -91,7 +91,7 @@ loop-holds c =
       subst (λ (n : ℕ). Searching (shows start) (start .args .key) (start .args .last) (start .args .before) (getD (start .args .table .now) rootWord 0) (c .before .level-of .result) 0 n) (sym (c .first-block .ensures))
           (starts (start .args .many) (shows start) (valid known) (start .args .key) (start .args .last) (start .args .before) (start .pre .1 .0) (start .pre .1 .1) _ (c .before .level-of .result)
           (root-is (start .args .many) (start .args .table .now) (start .pre .0 .3)) (found .before .if1 .left) (c .before .level-of .ensures)),
-      in-slot known _ _ (root-is-held (found .before)) (found .slot-of .ensures),
+      in-slot known _ _ (root-is-held (found .before)) (found .slot-reached .ensures),
     )
 
 -- ---- the loop
@@ -115,13 +115,13 @@ next-is-held p =
     next-held (start .args .many) (shows start) (valid known) (start .args .key) (start .args .last) (start .args .before) (start .pre .1 .0) (start .pre .1 .1) (loop .at) (loop .level) (loop .low) (loop .met) (loop .inv .0)
     (entered p .loop-test .taken) (p .before .next-of .result) (p .before .next-of .ensures) (p .if2 .left)
 
-slot-of-requires-2 : tie.Need-slot-of-requires-2 Inv-loop μ-loop
-slot-of-requires-2 c κs =
+slot-reached-requires-2 : tie.Need-slot-reached-requires-2 Inv-loop μ-loop
+slot-reached-requires-2 c κs =
     let pre = begun (entered c) .before .pre .0 in
     (pre .0, pre .1, pre .2, pre .3, next-is-held c, pre .4)
 
 level-of-requires-2 : tie.Need-level-of-requires-2 Inv-loop μ-loop
-level-of-requires-2 c κs = in-slot (begun (entered (c .before))) _ _ (next-is-held (c .before)) (c .slot-of2 .ensures)
+level-of-requires-2 c κs = in-slot (begun (entered (c .before))) _ _ (next-is-held (c .before)) (c .slot-reached2 .ensures)
 
 other-than-requires : tie.Need-other-than-requires Inv-loop μ-loop
 other-than-requires c κs = tt
@@ -189,7 +189,7 @@ loop-again c =
           (goes-on (args .many) (shows start) (valid known) (args .key) (args .last) (args .before) (start .pre .1 .0) (start .pre .1 .1) (loop .at) (loop .level) (loop .low) (loop .met) (loop .inv .0)
           (p .loop-test .taken) (found .before .next-of .result) (found .before .next-of .ensures) (found .if2 .left) below (leveled .level-of2 .ensures) (joined .if3 .met)
           (subst (λ b. Counted b (loop .met) (joined .if3 .met)) told (is-counted joined))),
-      in-slot known _ _ (next-is-held found) (leveled .before .slot-of2 .ensures),
+      in-slot known _ _ (next-is-held found) (leveled .before .slot-reached2 .ensures),
     )
 
 -- ---- the key is found
@@ -214,13 +214,13 @@ look-up-after-spec =
     μ-loop
     shared-slice-read-root
     returns
-    slot-of-requires
+    slot-reached-requires
     level-of-requires
     first-block-requires
     loop-holds
     next-of-requires
     returns-2
-    slot-of-requires-2
+    slot-reached-requires-2
     level-of-requires-2
     other-than-requires
     is-new-block-requires

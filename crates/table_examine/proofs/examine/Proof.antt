@@ -139,7 +139,7 @@ compare-requires c κs =
           (omega (arith, n, start .pre .1 .1 .0, c .before .before .before .before .before .before .before .before .before .before .before .before .before .before .before .left .given), omega (arith, n, start .pre .1 .1 .0)),
           (
             (omega (arith, n, start .pre .1 .1 .0, c .before .before .before .before .before .before .before .before .before .before .before .before .before .before .before .before .before .before .before .before .before .rank .given), omega (arith, n, start .pre .1 .1 .1), omega (arith, n, start .pre .1 .1 .1)),
-            (omega (arith, n, start .pre .0), omega (arith, start .pre .0)),
+            ((omega (arith, start .pre .0), omega (arith, n, start .pre .0), start .pre .1 .1 .1 .2), omega (arith, start .pre .0)),
           ),
         ),
       ),

@@ -22,7 +22,7 @@ decide-requires : tie.Need-decide-requires
 decide-requires c κs =
     let slots = c .before .slots-for in
     let right = slots-for-some (length (c .before .before .before .args .table .now)) (λ e. c .if1 .left (slots .ensures ∙ e)) in
-    rw (slots .ensures) (right .some, right .within, right .long)
+    rw (slots .ensures) (right .some, right .within, right .long, c .before .before .before .pre)
 
 enum-told : tie.Need-enum-told
 enum-told c = search needs

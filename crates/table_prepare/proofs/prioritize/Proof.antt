@@ -11,11 +11,11 @@ use Rattle.table_prepare.proofs.prioritize.Statement.{statement}
 use Rattle.table_prepare.proofs.prioritize.Tie as tie
 use Rattle.table_prepare.proofs.prioritize.Reads as reads
 use Rattle.table_prepare.proofs.prioritize.Lts as lts
-use Rattle.priority.proofs.priorities.Reads as priorities-reads
+use Rattle.priority.proofs.priorities_from.Reads as priorities-from-reads
 use Rattle.sorting.proofs.by_weight.Reads as by-weight-reads
 
-priorities-requires : tie.Need-priorities-requires
-priorities-requires c κs = search needs
+priorities-from-requires : tie.Need-priorities-from-requires
+priorities-from-requires c κs = search needs
 
 by-weight-requires : tie.Need-by-weight-requires
 by-weight-requires c κs = search needs
@@ -34,8 +34,8 @@ returns c =
     let args = c .before .before .before .before .before .before .before .before .before .before .before .before .before .before .before .before .args in
     let keys = args .keys .now in
     let n = length keys in
-    let ws = c .before .before .before .before .before .before .before .before .before .before .priorities .last .1 .0 in
-    let weights : take n ws ≡ map priorityOf keys = starts-and ws (args .weights .now) (map priorityOf keys) n (c .before .before .before .before .before .before .before .before .before .before .priorities .ensures) (length-map keys priorityOf) in (
+    let ws = c .before .before .before .before .before .before .before .before .before .before .priorities-from .last .1 .1 .0 in
+    let weights : take n ws ≡ map priorityOf keys = starts-and ws (args .weights .now) (map priorityOf keys) n (c .before .before .before .before .before .before .before .before .before .before .priorities-from .ensures) (length-map keys priorityOf) in (
       weights,
       starts-and (c .before .before .before .before .by-weight .last .1 .1 .0) (args .ranking .now) (byWeight (take n ws)) n (c .before .before .before .before .by-weight .ensures) (byWeight-length (take n ws) ∙ ap length weights ∙ length-map keys priorityOf)
           ∙ ap byWeight weights,
@@ -45,7 +45,7 @@ pub prioritize-spec : {M : Type 1} → statement M
 prioritize-spec =
     tie.close
     (tie.spec
-    priorities-requires
+    priorities-from-requires
     by-weight-requires
     same-length
     same-length-2

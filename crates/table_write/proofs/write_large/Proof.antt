@@ -34,7 +34,7 @@ write-within-requires : tie.Need-write-within-requires
 write-within-requires c κs =
     let pre = c .before .before .before .before .before .before .before .before .before .before .before .pre in
     let room = pre .1 .3 in
-    (pre .0, ((pre .1 .0, pre .1 .1, pre .1 .2, room), ((room, room, room, room), (room, room, room))))
+    (pre .0, ((pre .1 .0, pre .1 .1, pre .1 .2, room), ((room, room, room, room), (room, room, room, pre .1 .4))))
 
 same-length : tie.Need-same-length
 same-length c = search needs

@@ -34,7 +34,7 @@ write-requires c κs =
           (
             (omega (arith, fit, last .0), omega (arith, fit, last .1), omega (arith, fit, last .2)),
             (
-              (omega (arith, part, start .pre .1 .0 .0), omega (arith, part, fit)),
+              (omega (arith, part, start .pre .1 .0 .0), omega (arith, part, fit), last .3),
               omega (arith, part, start .pre .1 .0 .2),
             ),
           ),

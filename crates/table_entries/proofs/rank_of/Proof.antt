@@ -1,11 +1,11 @@
--- `table_entries::rank_in` meets its contract. Assumes nothing.
+-- `table_entries::rank_of` meets its contract. Assumes nothing.
 use mathlib.Core.Path.{_∙_}
 use native.Mathlib.Omega.{arith}
 use Rattle.table_entries.proofs.Answers.{key-in-slot}
 use Rattle.table_entries.proofs.Fields.{rank-is}
 use borrow.Author.Needs.{needs}
-use Rattle.table_entries.proofs.rank_in.Statement.{statement}
-use Rattle.table_entries.proofs.rank_in.Tie as tie
+use Rattle.table_entries.proofs.rank_of.Statement.{statement}
+use Rattle.table_entries.proofs.rank_of.Tie as tie
 
 slot-of-requires : tie.Need-slot-of-requires
 slot-of-requires c κs = search needs
@@ -23,7 +23,7 @@ returns c =
     let slot = c .before .slot-of .result in
     c .word-of .ensures
     ∙ rank-is many words key slot
-    (key-in-slot many words (start .pre .0) (start .pre .3) (λ i. omega (arith, known .shared-slice-known .given i)) (start .pre .1) (start .pre .2) key slot (start .pre .4) (c .before .slot-of .ensures))
+    (key-in-slot many words (start .pre .0) (start .pre .1) (start .pre .3) (λ i. omega (arith, known .shared-slice-known .given i)) (start .pre .2) key slot (start .pre .4) (c .before .slot-of .ensures))
 
-pub rank-in-spec : {M : Type 1} → statement M
-rank-in-spec = tie.close (tie.spec slot-of-requires word-of-requires returns)
+pub rank-of-spec : {M : Type 1} → statement M
+rank-of-spec = tie.close (tie.spec slot-of-requires word-of-requires returns)
