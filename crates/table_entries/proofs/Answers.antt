@@ -21,7 +21,7 @@ use Rattle.table_find.specs.Find.{searched, OnlyAt}
 use Rattle.table_find.specs.Claims.{TellsItsSlot, TellsNoKey}
 use Rattle.table_find.specs.declared.Found.{Found}
 use Rattle.table_find.specs.declared.Found.the-variants.{At, Nowhere}
-use Rattle.table_find.proofs.Claims.{search-finds}
+use Rattle.table_find.proofs.Claims.{search-tells}
 use Rattle.table_entries.specs.Steps.{InSlot}
 
 -- What an answer says of a key: held, its slot; absent, an empty slot or none.
@@ -47,8 +47,8 @@ module _ (many : ℕ) (words : List ℕ) (some : 0 < many) (most : many ≤ most
   search-says k priority own answer found =
       record {
         when-held =
-            λ m. subst (TellsItsSlot many words k) (ap (searched many words k) (sym own) ∙ sym found) (search-finds .held-key words sound k m);
-        when-absent = λ m. subst (TellsNoKey many words) (sym found) (search-finds .absent-key words sound k priority m);
+            λ m. subst (TellsItsSlot many words k) (ap (searched many words k) (sym own) ∙ sym found) (search-tells .held-key words sound k m);
+        when-absent = λ m. subst (TellsNoKey many words) (sym found) (search-tells .absent-key words sound k priority m);
       }
 
   pub key-in-slot : length words ≡ tableWords many → (k slot : ℕ) → member k (contentsOf many words .keys) ≡ true

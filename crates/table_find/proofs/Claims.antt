@@ -16,7 +16,7 @@ use Rattle.table_find.specs.Find.{stopsAt, slotFound, foundAt, searched,
 use Rattle.table_find.specs.Claims.{slotFrom, Stops, TellsFirst, TellsItsSlot, TellsNoKey, Search}
 use Rattle.table_find.specs.declared.Found.{Found}
 use Rattle.table_find.specs.declared.Found.the-variants.{At, Nowhere}
-use Rattle.table_find.proofs.Searching.{stops-on-empty, stops-on-key, stops-says, slot-comes-up, Ends, search-ends, found-at, found-nowhere}
+use Rattle.table_find.proofs.Searching.{stops-on-empty, stops-on-key, stops-says, slot-comes-up, Ends, where-search-ends, found-at, found-nowhere}
 use Rattle.table_find.proofs.Searching.Ends.{ends-at, ends-nowhere}
 use Rattle.table_find.proofs.Finding.{held-key-found, absent-key-nowhere}
 
@@ -52,7 +52,7 @@ module _ (many : ℕ) (some : 0 < many) (words : List ℕ) (key priority : ℕ) 
       passed-by words key other (ap (stopsAt words key) (sym here) ∙ passed steps l))
 
   tells-any : TellsFirst many words key priority (searched many words key priority)
-  tells-any = tells-first (slotFound many words key priority) (search-ends many words key priority some)
+  tells-any = tells-first (slotFound many words key priority) (where-search-ends many words key priority some)
 
 -- ---- a sound table
 module _ (words : List ℕ) (sound : Sound words) where
@@ -85,5 +85,5 @@ module _ (words : List ℕ) (sound : Sound words) where
     tells-no-key =
         empty-or-none (searched (sound .many) words key priority) (tells-any (sound .many) (sound .some) words key priority)
 
-pub search-finds : Search
-search-finds = record { any-number = tells-any; held-key = tells-its-slot; absent-key = tells-no-key }
+pub search-tells : Search
+search-tells = record { any-number = tells-any; held-key = tells-its-slot; absent-key = tells-no-key }

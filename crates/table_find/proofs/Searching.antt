@@ -102,8 +102,8 @@ module _ (many : ℕ) (words : List ℕ) (key priority : ℕ) (some : 0 < many) 
   unfolding slotFound
   search-starts = ap (first many (stopsAt words key)) (probes-in-turn many (homeOf priority many) (homeOf-below priority some))
 
-  pub search-ends : Ends many (stopsAt words key) (homeOf priority many) many (slotFound many words key priority)
-  search-ends = rw search-starts (search-outcome many (stopsAt words key) (homeOf priority many) many (homeOf-below priority some))
+  pub where-search-ends : Ends many (stopsAt words key) (homeOf priority many) many (slotFound many words key priority)
+  where-search-ends = rw search-starts (search-outcome many (stopsAt words key) (homeOf priority many) many (homeOf-below priority some))
 
 -- ---- the answer
 pub found-at : (many slot : ℕ) → slot < many → foundAt many slot ≡ At slot
