@@ -42,8 +42,9 @@ use Rattle.call_replies.specs.declared.Batched.{Batched}
 use Rattle.call_replies.proofs.Batched as B
 use Rattle.call_replies.proofs.Batched.Laws as B′
 use Rattle.walks.proofs.TwoFacts.{both-heard, says-both}
-use Rattle.call_batch.specs.Batch.{batchReply, batchAfter}
+use Rattle.call_batch.specs.Batch.{batchReply}
 use Rattle.call_batch.specs.declared.Question.{Question}
+use Rattle.call_batch.proofs.AnswerWalks.{Answers, Leaves, ans, spelled}
 use Rattle.call_batch.proofs.Question as Q
 use Rattle.call_batch.proofs.look_up_batch as inner
 use Rattle.call_batch.proofs.look_up_batch.Symbol as inner-def
@@ -71,17 +72,6 @@ Inner 𝓤 H A at-mem run = tripleOf 𝓤 H A inner.signature (inner.spec 𝓤 H
 
 abbrev Replies : {M : Type 1} (𝓤 : URA M) (H : Heap 𝓤) (A : Atoms 𝓤) (at-mem : Memory → SProp 𝓤) (run : Routine → Fun 𝓤) → Contract 𝓤
 Replies 𝓤 H A at-mem run = tripleOf 𝓤 H A batched.signature (batched.spec 𝓤 H A at-mem run)
-
--- what the inner contract says of an answer, and both of the batch at exit
-abbrev Answers : List ℕ → List Question → Batched → Type 0
-Answers words ys r = batchedOf r ≡ batchReply words ys
-
-abbrev Leaves : List ℕ → List Question → List Question → Type 0
-Leaves words ys ws = ws ≡ batchAfter words ys
-
--- the machine value of an answer
-abbrev ans : Batched → Val
-ans r = EL.val B.the-type B′.the-laws r
 
 module _ {M : Type 1} (𝓤 : URA M) (H : Heap 𝓤) (A : Atoms 𝓤) (W : Given 𝓤 H A) (at-mem : Memory → SProp 𝓤) (run : Routine → Fun 𝓤) (κ κ′ : Lft) (q q′ : Share) (s : RefT (List ℕ)) (b o : ℕ) (γ : GName) (ys : List Question) where
   abbrev v : Val
@@ -138,9 +128,6 @@ module _ {M : Type 1} (𝓤 : URA M) (H : Heap 𝓤) (A : Atoms 𝓤) (W : Given
   batched-said : (r : Batched) (z : SizedReply) → ent 𝓤 (ensured 𝓤 H A batched.ended (batched.clauses 𝓤 H A at-mem run) tt (r, tt) tt z) (fact 𝓤 (sized z ≡ batchedOf r))
   batched-said r z = exE 𝓤 _ (λ ws. snd∗ 𝓤 (sem 𝓤 H A (lasts batched.ended tt (r, tt) ws)) (fact 𝓤 (sized z ≡ batchedOf r)))
 
-  answer-is : (r : Batched) (u : Val) → Is B.the-row r (u ∷ []) → Is B.the-row r (ans r ∷ [])
-  answer-is r u was = subst (Is B.the-row r) (EL.tells B.the-type B′.the-laws r _ was) was
-
   reply-is : (z : SizedReply) (u : Val) → Is Z.the-row z (u ∷ []) → Is Z.the-row z (LL.vals Z.the-type Z′.the-laws z)
   reply-is z u was = subst (Is Z.the-row z) (LL.tells Z.the-type Z′.the-laws z _ was) was
 
@@ -162,7 +149,7 @@ module _ {M : Type 1} (𝓤 : URA M) (H : Heap 𝓤) (A : Atoms 𝓤) (W : Given
         -- [what the answer owns; the tokens; the batch's last list; true; what the table owns; true; _5; …]
         peeks ! B.the-row (Is B.the-row) (shows 𝓤 H A B.the-row) r (w ∷ []) (λ is.
         land ! (from ! (stop !)) (init ! 10 refl (EL.lawful B.the-type B′.the-laws 𝓤 H A W tt .typed r _ is .0)) $ rewrite ! 10 (λ (u : Val). ‵ (fat fullShare B′.mir l₃ 0 u)) (ap only (EL.tells B.the-type B′.the-laws r _ is)) refl $
-        drop ! $ owned ! B.the-row (Is B.the-row) (EL.makes B.the-type B′.the-plain 𝓤 H A) r (ans r ∷ []) (answer-is r w is) $ use1 W (raw (Replies 𝓤 H A at-mem run .pre (to-batched r))) (asks-batched r) $
+        drop ! $ owned ! B.the-row (Is B.the-row) (EL.makes B.the-type B′.the-plain 𝓤 H A) r (ans r ∷ []) (spelled r w is) $ use1 W (raw (Replies 𝓤 H A at-mem run .pre (to-batched r))) (asks-batched r) $
         calls-at ! fm (Replies 𝓤 H A at-mem run) knows-batched (to-batched r) (and-then ! (load ! (from ! (stop !)) (look ! 10 refl)) (no-more !)) (λ w′.
         use1 W (later (some (λ (z : SizedReply). (‵ ftrue ⊛ ‵ (Z.the-row .own z (w′ ∷ []))) ⊛ raw (ensured 𝓤 H A batched.ended (batched.clauses 𝓤 H A at-mem run) tt (r, tt) tt z)))) (id⊢ 𝓤 _) $ await ! tt $ pick ! (λ z.
         split ! $ move ! (1 ∷ []) $ use1 W (raw (fact 𝓤 (sized z ≡ batchedOf r))) (batched-said r z) $ heard ! (sized z ≡ batchedOf r) (λ e′. split ! $ move ! (1 ∷ []) $

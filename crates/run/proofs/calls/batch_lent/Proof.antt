@@ -50,13 +50,12 @@ use denote.Triple.Spec.{Meets, tripleOf}
 use denote.Triple.Table.{entered, cited}
 use denote.Triple.Walked.{Stays, stay-none-slice, stay-dropped, walkOf, AllGo, goes-none-slice, goes-dropped, Walks, ends-at, walked, walk-meets}
 use denote.Exit.{yes}
-use Rattle.call_replies.specs.Replies.{batchedOf}
 use Rattle.call_replies.specs.declared.Batched.{Batched}
 use Rattle.call_replies.proofs.Batched as B
 use Rattle.call_replies.proofs.Batched.Laws as B′
 use Rattle.walks.proofs.TwoFacts.{both-heard, says-both}
-use Rattle.call_batch.specs.Batch.{batchReply, batchAfter}
 use Rattle.call_batch.specs.declared.Question.{Question}
+use Rattle.call_batch.proofs.AnswerWalks.{Answers, Leaves, ans, spelled}
 use Rattle.call_batch.proofs.Question as Q
 use Rattle.call_batch.proofs.Question.Laws as Q′
 use Rattle.call_batch.proofs.look_up_batch as inner
@@ -82,22 +81,9 @@ stayed = (stay-none-slice (0 ∷ []) tt (plain (λ _. u64)) yes, (stay-dropped (
 abbrev Inner : {M : Type 1} (𝓤 : URA M) (H : Heap 𝓤) (A : Atoms 𝓤) (at-mem : Memory → SProp 𝓤) (run : Routine → Fun 𝓤) → Contract 𝓤
 Inner 𝓤 H A at-mem run = tripleOf 𝓤 H A inner.signature (inner.spec 𝓤 H A at-mem run)
 
--- what the contracts say of an answer, and of the lines after it
-abbrev Answers : List ℕ → List Question → Batched → Type 0
-Answers words ys r = batchedOf r ≡ batchReply words ys
-
-abbrev Leaves : List ℕ → List Question → List Question → Type 0
-Leaves words ys ws = ws ≡ batchAfter words ys
-
--- the machine values of an answer and of lines
-abbrev ans : Batched → Val
-ans r = EL.val B.the-type B′.the-laws r
-
+-- the machine value of lines
 abbrev lined : List Question → Val
 lined ys = only (array-vals (LL.vals Q.the-type Q′.the-laws) ys)
-
-answer-is : (r : Batched) (u : Val) → Is B.the-row r (u ∷ []) → Is B.the-row r (ans r ∷ [])
-answer-is r u was = subst (Is B.the-row r) (EL.tells B.the-type B′.the-laws r _ was) was
 
 -- ---- the result, and that it is what its parts' machine values make
 each-into : (ys : List Question) (us : List Val) → shadow (each Question (Q.the-row .own) ys us) → shadow (each (Q.the-field .row .Denot) (Q.the-field .row .own) (map (Q.the-field .into) ys) us)
@@ -215,10 +201,10 @@ module _ {M : Type 1} (𝓤 : URA M) (H : Heap 𝓤) (A : Atoms 𝓤) (W : Given
         peeks ! Lines (Is Lines) (shows 𝓤 H A Lines) (ws .1 .0) (z ∷ []) (λ is′.
         assigns ! (of-opd ! (load ! (from ! (stop !)) (look ! 1 refl))) (from ! (stop !)) (init ! 6 refl (typed-lines (ws .1 .0) z is′)) $
         assigns ! (agg ! (and-then ! (load ! (from ! (stop !)) (look ! 12 refl)) (and-then ! (load ! (from ! (stop !)) (look ! 6 refl)) (no-more !)))) (from ! (stop !))
-        (init ! 19 refl (LL.lawful O.the-type O′.the-laws 𝓤 H A W .typed (result r (ws .1 .0)) _ (result-is r (ws .1 .0) z (answer-is r w is) is′) .0)) $
+        (init ! 19 refl (LL.lawful O.the-type O′.the-laws 𝓤 H A W .typed (result r (ws .1 .0)) _ (result-is r (ws .1 .0) z (spelled r w is) is′) .0)) $
         returns ! (look ! 19 refl) $ forget ! 1 refl $ forget ! 6 refl $ forget ! 8 refl $ forget ! 10 refl $ forget ! 12 refl $ forget ! 15 refl $ forget ! 17 refl $ forget ! 19 refl $
         move ! (19 ∷ 20 ∷ []) $ free1 ! $ move ! (17 ∷ 18 ∷ []) $ free1 ! $ move ! (15 ∷ 16 ∷ []) $ free1 ! $ move ! (1 ∷ 14 ∷ []) $ free1 ! $ move ! (11 ∷ 12 ∷ []) $ free1 ! $ move ! (9 ∷ 10 ∷ []) $ free1 ! $ move ! (7 ∷ 8 ∷ []) $ free1 ! $ move ! (5 ∷ 6 ∷ []) $ free1 ! $ free0 ! $
-        move ! (2 ∷ 1 ∷ []) $ join ! $ keep ! (0 ∷ 3 ∷ []) $ by ! (exits r (ws .1 .0) z (result-is r (ws .1 .0) z (answer-is r w is) is′) (e .0) (e .1))))))))))))))))))))
+        move ! (2 ∷ 1 ∷ []) $ join ! $ keep ! (0 ∷ 3 ∷ []) $ by ! (exits r (ws .1 .0) z (result-is r (ws .1 .0) z (spelled r w is) is′) (e .0) (e .1))))))))))))))))))))
       where
         three : length ys ≡ 3
         three = was .1 .0 .1
