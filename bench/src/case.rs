@@ -35,6 +35,7 @@ pub fn all() -> Vec<Case> {
     cases.push(random(64, 32));
     cases.push(chain());
     cases.push(one_home());
+    cases.push(clusters());
     cases
 }
 
@@ -98,6 +99,32 @@ fn one_home() -> Case {
     Case {
         name,
         slots: SLOTS,
+        batch: batch(&keys),
+        keys,
+        held,
+        absent,
+    }
+}
+
+/// 4,000 keys in 40 runs of 100 neighbours; those to insert are the next after a
+/// run.
+fn clusters() -> Case {
+    const RUNS: usize = 40;
+    const LENGTH: u64 = 100;
+    let mut state = 1;
+    let starts: BTreeSet<u64> = (0..RUNS).map(|_| splitmix(&mut state) >> 1 | 1).collect();
+    let run = |&start: &u64| start..start + LENGTH;
+    let keys: Vec<u64> = starts.iter().flat_map(run).collect();
+    let number = keys.len();
+    let held = (0..TURNS).map(|turn| keys[turn * number / TURNS]).collect();
+    let absent = starts
+        .iter()
+        .map(|start| start + LENGTH)
+        .take(TURNS)
+        .collect();
+    Case {
+        name: format!("M = 4096, n = {number} in {RUNS} runs of {LENGTH}"),
+        slots: 4096,
         batch: batch(&keys),
         keys,
         held,

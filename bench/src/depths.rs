@@ -11,21 +11,26 @@ use std::collections::BTreeSet;
 /// as full as loads make it.
 const LOAD: u16 = 5_000;
 
-/// Measures every call at the greatest table and at a small one, and prints it.
+/// How many neighbours a run has.
+const RUN: usize = 64;
+
+/// Measures every call at the greatest table, of random keys and of keys in runs,
+/// and at a small one, and prints it.
 pub fn print() {
-    let great = depths(MOST_SLOTS);
-    let small = depths(64);
-    println!("| call | bytes of stack, M = n = {MOST_SLOTS} | M = n = 64 |");
-    println!("|---|---:|---:|");
-    for ((call, great), (_, small)) in great.into_iter().zip(small) {
-        println!("| {call} | {great} | {small} |");
+    let great = depths(&random_keys(MOST_SLOTS));
+    let in_runs = depths(&keys_in_runs());
+    let small = depths(&random_keys(64));
+    println!("| call | bytes of stack, M = n = {MOST_SLOTS} | in runs of {RUN} | M = n = 64 |");
+    println!("|---|---:|---:|---:|");
+    for (((call, great), (_, in_runs)), (_, small)) in great.into_iter().zip(in_runs).zip(small) {
+        println!("| {call} | {great} | {in_runs} | {small} |");
     }
 }
 
-/// Each call's depth on a full table of so many slots. Insert follows delete, so
+/// Each call's depth on a table that the keys fill. Insert follows delete, so
 /// that there is room.
-fn depths(slots: usize) -> Vec<(&'static str, usize)> {
-    let keys = keys(slots);
+fn depths(keys: &[u64]) -> Vec<(&'static str, usize)> {
+    let slots = keys.len();
     let key = keys[slots / 2];
     let mut table = vec![0; btreap::table_words(slots)];
     let t = &mut table[..];
@@ -37,7 +42,7 @@ fn depths(slots: usize) -> Vec<(&'static str, usize)> {
     measure("(no call)", &mut || ());
     measure("set_up", &mut || done(btreap::set_up(t, ORDER)));
     measure("load", &mut || done(btreap::load(t, ORDER, 1, LOAD)));
-    measure("build", &mut || done(btreap::build(t, ORDER, &keys)));
+    measure("build", &mut || done(btreap::build(t, ORDER, keys)));
     measure("delete", &mut || done(btreap::delete(t, key)));
     measure("insert", &mut || done(btreap::insert(t, key)));
     measure("lookup", &mut || done(btreap::look_up(t, key)));
@@ -57,13 +62,20 @@ fn depths(slots: usize) -> Vec<(&'static str, usize)> {
 }
 
 /// So many keys, rising.
-fn keys(number: usize) -> Vec<u64> {
+fn random_keys(number: usize) -> Vec<u64> {
     let mut state = number as u64;
     let mut keys = BTreeSet::new();
     while keys.len() < number {
         keys.insert(splitmix(&mut state).max(1));
     }
     keys.into_iter().collect()
+}
+
+/// As many keys as a table can hold, in runs of neighbours, rising.
+fn keys_in_runs() -> Vec<u64> {
+    let starts = random_keys(MOST_SLOTS / RUN);
+    let run = |start: u64| (0..RUN as u64).map(move |i| (start >> 1) + i);
+    starts.into_iter().flat_map(run).collect()
 }
 
 /// A call that is refused ends the run.
@@ -92,13 +104,14 @@ mod tests {
     fn no_call_uses_more_than_the_header_says() {
         let reading = promised("Stack, as measured: up to ");
         let other = promised("bytes for btreap_read and btreap_list, up to ");
-        for slots in [MOST_SLOTS, 64] {
-            for (call, depth) in depths(slots) {
+        for keys in [random_keys(MOST_SLOTS), keys_in_runs(), random_keys(64)] {
+            for (call, depth) in depths(&keys) {
                 let most = match call {
                     "read" | "list" => reading,
                     "set_up" => NEXT_TO_NONE,
                     _ => other,
                 };
+                let slots = keys.len();
                 assert!(depth <= most, "{call}, {slots} slots: {depth} > {most}");
             }
         }

@@ -21,6 +21,7 @@ mod refusals;
 mod sets;
 mod shapes;
 mod sizes;
+mod sorts;
 mod ties;
 mod universes;
 
@@ -33,7 +34,7 @@ pub struct Section {
 }
 
 /// All sections; the longest first, so that threads finish together.
-pub const SECTIONS: [Section; 20] = [
+pub const SECTIONS: [Section; 21] = [
     loads::SECTION,
     batches::SECTION,
     histories::SECTION,
@@ -42,6 +43,7 @@ pub const SECTIONS: [Section; 20] = [
     homes::SECTION,
     full::SECTION,
     sizes::SECTION,
+    sorts::SECTION,
     shapes::SECTION,
     universes::SECTION,
     damaged_tables::SECTION,

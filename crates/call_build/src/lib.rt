@@ -1,7 +1,7 @@
 // Making a table of any words: the blank one of an order, or that of an order and a list of keys.
 ghost use mathlib.Core.Path.{_≡_};
 ghost use Prim.Native.Nat.{_<_, _≤_};
-ghost use lib.ListN.{length};
+ghost use lib.ListN.{length, replicate};
 ghost use Rattle.table.specs.Layout.{mostSlots, tableWords};
 ghost use Rattle.table.specs.Table.{fresh};
 ghost use Rattle.table_prepare.specs.Prepared.{Keys};
@@ -11,6 +11,15 @@ use call_replies::Built;
 use call_replies::Refusal;
 use call_replies::SetUp;
 use table::ORDER_WORD;
+
+// Make every word zero.
+fn clear(words: &mut [u64])
+    ensures { λ _. ⌜ now (words .exit) ≡ replicate (length (now (words .entry))) 0 ⌝ }
+{
+    for i in 0..words.len() {
+        words[i] = 0;
+    }
+}
 
 // Make of any words of a right length the blank table of an order. Refusals: 1, 2.
 pub fn set_up(table: &mut [u64], order: u64) -> SetUp
@@ -23,7 +32,7 @@ pub fn set_up(table: &mut [u64], order: u64) -> SetUp
     if !table_limits::is_new_order(order) {
         return SetUp::Refused(Refusal::WrongOrder);
     }
-    table_slots::clear(table);
+    clear(table);
     table[ORDER_WORD] = order;
     SetUp::Done
 }

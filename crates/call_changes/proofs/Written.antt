@@ -3,16 +3,13 @@ use mathlib.Core.Bool.{true}
 use mathlib.Core.List.{List}
 use mathlib.Core.Path.{_≡_, sym, ap, _∙_, subst}
 use Prim.Native.Nat.{ℕ, _≤_}
-use lib.ListN.{getD}
 use Rattle.priority.specs.Priority.{priorityOf}
 use Rattle.treap.specs.Levels.{rank}
-use Rattle.table.specs.Layout.{orderWord}
 use Rattle.table.specs.Contents.{Contents, Valid}
 use Rattle.table.specs.Table.{fresh, contentsOf}
 use Rattle.table.specs.Sound.{soundWith}
 use Rattle.table.proofs.Reading.{contents-of-fresh}
 use Rattle.table.proofs.Soundness.{fresh-passes}
-use Rattle.table_prepare.specs.Prepared.{Keys}
 use Rattle.call_meaning.specs.Calls.{rankIn}
 
 module _ (many : ℕ) (c : Contents) (some : 1 ≤ many) (valid : Valid many c) (words : List ℕ) (written : words ≡ fresh many c) where
@@ -21,17 +18,6 @@ module _ (many : ℕ) (c : Contents) (some : 1 ≤ many) (valid : Valid many c) 
 
   pub shows : contentsOf many words ≡ c
   shows = ap (contentsOf many) written ∙ contents-of-fresh many c some valid
-
--- written from the order that a table shows and keys
-pub written-with : (many : ℕ) (words keys after keys′ : List ℕ) → after ≡ fresh many (record { order = getD words orderWord 0; keys = keys }) → keys ≡ keys′
-    → after ≡ fresh many (record { order = contentsOf many words .order; keys = keys′ })
-unfolding contentsOf
-written-with many words keys after keys′ e f = e ∙ ap (λ (ks : List ℕ). fresh many (record { order = getD words orderWord 0; keys = ks })) f
-
--- and can be
-pub writable-with : (many : ℕ) (words keys keys′ : List ℕ) → Keys (contentsOf many words .order) keys′ → keys ≡ keys′ → Keys (getD words orderWord 0) keys
-unfolding contentsOf
-writable-with many words keys keys′ can e = subst (Keys (getD words orderWord 0)) (sym e) can
 
 -- a rank read where the table shows this
 pub ranked : (n : ℕ) (shown c : Contents) (key : ℕ) → n ≡ rank (shown .order) priorityOf (shown .keys) key → shown ≡ c → n ≡ rankIn c key

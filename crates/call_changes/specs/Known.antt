@@ -6,6 +6,7 @@ use Prim.Native.Nat.{ℕ, _<_, _≤_}
 use lib.ListN.{length, take}
 use Rattle.lists.specs.Lists.{member}
 use Rattle.table.specs.Layout.{mostSlots, tableWords}
+use Rattle.table.specs.Contents.{Contents}
 use Rattle.table.specs.Table.{contentsOf}
 use Rattle.table.specs.Sound.{soundWith}
 
@@ -22,3 +23,7 @@ abbrev pub RoomFor : ℕ → ℕ → List ℕ → List ℕ → Type 0
 RoomFor key many words keys =
     member key (contentsOf many words .keys) ≡ false → length (contentsOf many words .keys) < many
     → length (contentsOf many words .keys) < length keys
+
+-- The order that a table of so many slots shows, with these keys.
+abbrev pub withKeys : ℕ → List ℕ → List ℕ → Contents
+withKeys many words keys = record { order = contentsOf many words .order; keys = keys }

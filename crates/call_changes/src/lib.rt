@@ -1,13 +1,16 @@
-// What insert, delete and a load share: coming to know that a table is sound, and laws of the sets and the tables that they leave.
+// What insert, delete and a load share: coming to know that a table is sound, writing it of other keys, and laws of the sets and the tables that they leave.
 ghost use mathlib.Core.Path.{_≡_};
 ghost use mathlib.Core.Bool.{true};
 ghost use Prim.Native.Nat.{_<_, _≤_};
-ghost use lib.ListN.{length};
+ghost use lib.ListN.{length, take};
 ghost use Rattle.priority.specs.Priority.{HoldsConstants};
 ghost use Rattle.table.specs.Layout.{mostSlots, tableWords};
+ghost use Rattle.table.specs.Contents.{Valid};
+ghost use Rattle.table.specs.Table.{fresh};
 ghost use Rattle.table.specs.Sound.{soundWith};
-ghost use Rattle.call_changes.specs.Known.{Known};
+ghost use Rattle.call_changes.specs.Known.{Known, withKeys};
 use priority::CONSTANT_COUNT;
+use table::ORDER_WORD;
 use table_examine::Verdict;
 
 // Whether a table of `many` slots is sound; where it is, its keys, rising, are then at the start of `keys`; where it is not, what `keys`
@@ -17,10 +20,28 @@ pub fn know(table: &[u64], many: usize, keys: &mut [u64], constants: &[u64; CONS
     ensures { λ r. ⌜ r ≡ soundWith many (now (table .entry)) ⌝ }
     ensures { λ r. ⌜ (r ≡ true → Known many (now (table .entry)) (now (keys .exit))) ⌝ }
 {
-    let found = table_judge::examine_sized(table, many, keys, constants);
+    let found = table_examine::examine(table, many, keys, constants);
     if let Verdict::Sound(_) = found {
         true
     } else {
         false
     }
+}
+
+// Write the table of the order that it shows and of the first `n` of `keys`; it is then known to be sound. Internal to this library's
+// crates: they lend the constants of the priorities.
+pub fn rewrite(
+    table: &mut [u64],
+    many: usize,
+    keys: &[u64],
+    n: usize,
+    constants: &[u64; CONSTANT_COUNT],
+)
+    requires { ⌜ Valid many (withKeys many (now table) (take n (now keys))) ⌝ }
+    requires { ⌜ (0 < many) × (many ≤ mostSlots) × (length (now table) ≡ tableWords many) × (n ≤ length (now keys)) × HoldsConstants (now constants) ⌝ }
+    ensures { λ _. ⌜ now (table .exit) ≡ fresh many (withKeys many (now (table .entry)) (take n (now (keys .entry)))) ⌝ }
+    ensures { λ _. ⌜ Known many (now (table .exit)) (now (keys .entry)) ⌝ }
+{
+    let order = table[ORDER_WORD];
+    table_write::write(order, &keys[..n], many, table, constants);
 }

@@ -2,15 +2,17 @@
 use mathlib.Core.Bool.{true, false}
 use mathlib.Core.List.{List}
 use mathlib.Core.Logic.{_≢_}
-use mathlib.Core.Path.{_≡_}
+use mathlib.Core.Path.{_≡_, refl, sym, ap, _∙_}
 use Prim.Native.Nat.{ℕ, _<_, _≤_}
 use native.Mathlib.Omega.{arith}
 use lib.Dec.{eqb}
-use lib.ListN.{length}
+use lib.ListN.{length, getD, take}
 use borrow.Author.Tests.{eq-eqb, ne-eqb}
-use Rattle.lists.specs.Lists.{member}
-use Rattle.table.specs.Contents.{Contents}
-use Rattle.table.specs.Layout.{mostSlots, tableWords}
+use Rattle.lists.specs.Lists.{member, overwrite}
+use Rattle.priority.specs.Priority.{priorityOf}
+use Rattle.treap.specs.Levels.{rank}
+use Rattle.table.specs.Contents.{Contents, Valid}
+use Rattle.table.specs.Layout.{mostSlots, sizeWord, tableWords}
 use Rattle.table.specs.Table.{fresh, contentsOf}
 use Rattle.table.specs.Sound.{soundWith}
 use Rattle.table_limits.specs.Lengths.{slotsFor}
@@ -22,10 +24,14 @@ use Rattle.call_replies.specs.declared.Deleted.the-variants.{Rank, Refused}
 use Rattle.call_meaning.specs.Reasons.{wrongLength, zeroKey, notSound, keyAbsent}
 use Rattle.call_meaning.specs.Calls.{rankIn, rewritten, shrunk, deleteRefusal, deleteReply, deleteAfter}
 use Rattle.call_meaning.proofs.Judged.{slots-here, right-length, judged, shown-is, member-shown}
+use Rattle.call_changes.specs.Known.{Known, withKeys}
+use Rattle.call_changes.proofs.Sets.{without-fewer, without-valid}
+use Rattle.call_changes.proofs.Written.{ranked}
+use Rattle.call_changes.proofs.Knowing.{Facts, made-valid, made-written}
 
 -- What a table of so many slots shows, with a key less.
 abbrev pub withoutKey : ℕ → List ℕ → ℕ → Contents
-withoutKey many words key = record { order = contentsOf many words .order; keys = without key (contentsOf many words .keys) }
+withoutKey many words key = withKeys many words (without key (contentsOf many words .keys))
 
 module _ (words : List ℕ) (key : ℕ) where
   -- What a delete that answers so and leaves these words meets.
@@ -74,3 +80,39 @@ module _ (words : List ℕ) (key : ℕ) where
             rw (slots-right, not-zero, is-sound, present, shown-here, e),
             rw (slots-right, not-zero, is-sound, present, shown-here, slots-here words many some most long) q,
           )
+
+-- ---- a table that is known to be sound
+module _ {many : ℕ} {words keys : List ℕ} (told : Facts many words keys) (key : ℕ) (positive : 1 ≤ key) where
+  abbrev set : List ℕ
+  set = contentsOf many words .keys
+
+  -- What a delete that answers so and leaves this table with this list of its keys meets.
+  abbrev Leaves : Deleted → List ℕ → List ℕ → Type 0
+  Leaves answer after keys′ = (deletedOf answer ≡ deleteReply words key) × ((after ≡ deleteAfter words key) × Known many after keys′)
+
+  pub leaves-absent : member key set ≡ false → Leaves (Refused KeyAbsent) words keys
+  leaves-absent absent =
+      let k = told .known in
+      let (reply, after) = refused-absent words key many (k .some) (k .most) (k .long) positive (k .sound) absent in
+      (reply, (after, k))
+
+  -- ---- the key was taken out
+  module _ (keys′ : List ℕ) (left : ℕ) (counted : left ≡ length (without key (take (getD words sizeWord 0) keys)))
+      (out : keys′ ≡ overwrite keys 0 (without key (take (getD words sizeWord 0) keys))) where
+    left-size : length (without key set) ≡ left
+    left-size = sym (counted ∙ ap (λ (ks : List ℕ). length (without key ks)) (told .taken))
+
+    pub left-inside : left ≤ length keys
+    left-inside = omega (arith, left-size, without-fewer key set, told .inside)
+
+    pub can-be-written : Valid many (withKeys many words (take left keys′))
+    can-be-written = made-valid told (without key) keys′ left out left-size (without-valid key many (contentsOf many words) (told .valid))
+
+    pub leaves-without : member key set ≡ true → (after : List ℕ) → after ≡ fresh many (withKeys many words (take left keys′)) → Known many after keys′
+        → (n : ℕ) → n ≡ rank (contentsOf many words .order) priorityOf set key → Leaves (Rank n) after keys′
+    leaves-without held after written known n e =
+        let k = told .known in
+        let its-rank = ranked n (contentsOf many words) (contentsOf many words) key e refl in
+        let left-written = made-written told (without key) keys′ left out left-size after written in
+        let (reply, then) = accepted words key many (k .some) (k .most) (k .long) positive (k .sound) held n its-rank after left-written in
+        (reply, (then, known))

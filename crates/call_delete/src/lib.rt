@@ -10,7 +10,6 @@ ghost use Rattle.call_changes.specs.Known.{Known};
 use call_replies::Deleted;
 use call_replies::Refusal;
 use priority::CONSTANT_COUNT;
-use table::ORDER_WORD;
 use table::SIZE_WORD;
 
 // Delete a key from a sound table of `many` slots, its keys at the start of `keys`, as they then are again. Internal to this library's
@@ -33,10 +32,9 @@ pub fn delete_known(
         return Deleted::Refused(Refusal::KeyAbsent);
     }
     let n = table[SIZE_WORD] as usize;
-    let order = table[ORDER_WORD];
     let rank = table_entries::rank_of(table, many, key, priority);
     let left = call_sets::take_out(keys, n, key);
-    table_write::write(order, &keys[..left], many, table, constants);
+    call_changes::rewrite(table, many, keys, left, constants);
     Deleted::Rank(rank)
 }
 
@@ -58,47 +56,15 @@ fn delete_in(
     delete_known(table, many, key, keys, constants)
 }
 
-// Delete a key from a table of up to 512 slots.
-fn delete_few(
-    table: &mut [u64],
-    many: usize,
-    key: u64,
-    constants: &[u64; CONSTANT_COUNT],
-) -> Deleted
-    requires { ⌜ (0 < many) × (many ≤ 512) × (length (now table) ≡ tableWords many) × (1 ≤ key) × HoldsConstants (now constants) ⌝ }
-    ensures { λ r. ⌜ deletedOf r ≡ deleteReply (now (table .entry)) key ⌝ }
-    ensures { λ _. ⌜ now (table .exit) ≡ deleteAfter (now (table .entry)) key ⌝ }
-{
-    let mut keys = [0u64; 512];
-    delete_in(table, many, key, &mut keys, constants)
-}
-
-// Delete a key from a table of up to 4,096 slots.
-fn delete_many(
-    table: &mut [u64],
-    many: usize,
-    key: u64,
-    constants: &[u64; CONSTANT_COUNT],
-) -> Deleted
-    requires { ⌜ (0 < many) × (many ≤ 4096) × (length (now table) ≡ tableWords many) × (1 ≤ key) × HoldsConstants (now constants) ⌝ }
-    ensures { λ r. ⌜ deletedOf r ≡ deleteReply (now (table .entry)) key ⌝ }
-    ensures { λ _. ⌜ now (table .exit) ≡ deleteAfter (now (table .entry)) key ⌝ }
-{
-    let mut keys = [0u64; 4096];
-    delete_in(table, many, key, &mut keys, constants)
-}
-
-// Delete a key from a table of `many` slots, the key not zero, with the constants of the priorities made for it.
-fn delete_sized(table: &mut [u64], many: usize, key: u64) -> Deleted
+// Delete a key from a table of `many` slots, the key not zero, with room for the table's keys, and the constants of the priorities made for it.
+fn delete_with_room(table: &mut [u64], many: usize, key: u64) -> Deleted
     requires { ⌜ (0 < many) × (many ≤ mostSlots) × (length (now table) ≡ tableWords many) × (1 ≤ key) ⌝ }
     ensures { λ r. ⌜ deletedOf r ≡ deleteReply (now (table .entry)) key ⌝ }
     ensures { λ _. ⌜ now (table .exit) ≡ deleteAfter (now (table .entry)) key ⌝ }
 {
     let constants = priority::constant_table();
-    if many <= 512 {
-        return delete_few(table, many, key, &constants);
-    }
-    delete_many(table, many, key, &constants)
+    let mut keys = [0u64; 4096];
+    delete_in(table, many, key, &mut keys, &constants)
 }
 
 // Delete a key; the rank that it had. Refusals: 1, 3, 7, 9.
@@ -113,5 +79,5 @@ pub fn delete(table: &mut [u64], key: u64) -> Deleted
     if key == 0 {
         return Deleted::Refused(Refusal::ZeroKey);
     }
-    delete_sized(table, many, key)
+    delete_with_room(table, many, key)
 }

@@ -1,18 +1,15 @@
 // Writing the image of a table, and making a table of an image. Each call takes any words and any bytes; what it refuses it leaves
 // as it was.
 ghost use mathlib.Core.Path.{_≡_};
-ghost use Prim.Native.Nat.{_+_, _*_, _<_, _≤_};
+ghost use Prim.Native.Nat.{_<_, _≤_};
 ghost use lib.ListN.{length};
 ghost use Rattle.priority.specs.Priority.{HoldsConstants};
 ghost use Rattle.table.specs.Layout.{mostSlots, tableWords};
-ghost use Rattle.image.specs.Layout.{headerBytes, nodeBytes};
-ghost use Rattle.image_collect.specs.Reading.{RoomFor};
 ghost use Rattle.call_replies.specs.Replies.{writtenOf, readBackOf};
 ghost use Rattle.call_meaning.specs.Calls.{writeReply, writeOutput, readReply, readAfter};
 use call_replies::ReadBack;
 use call_replies::Refusal;
 use call_replies::Written;
-use image::MEDIUM_BYTES;
 use image::ORDER_AT;
 use image::ORDER_BYTES;
 use image_recognize::Recognized;
@@ -33,7 +30,7 @@ fn write_in(
     ensures { λ _. ⌜ now (output .exit) ≡ writeOutput (now (table .entry)) (now (output .entry)) ⌝ }
 {
     let order = table[ORDER_WORD];
-    let found = table_judge::examine_sized(table, many, keys, constants);
+    let found = table_examine::examine(table, many, keys, constants);
     let Verdict::Sound(n) = found else {
         return Written::Refused(Refusal::NotSound);
     };
@@ -44,47 +41,15 @@ fn write_in(
     Written::Bytes(size)
 }
 
-// The image of a table of up to 512 slots.
-fn write_few(
-    table: &[u64],
-    many: usize,
-    output: &mut [u8],
-    constants: &[u64; CONSTANT_COUNT],
-) -> Written
-    requires { ⌜ (0 < many) × (many ≤ 512) × (length (now table) ≡ tableWords many) × HoldsConstants (now constants) ⌝ }
-    ensures { λ r. ⌜ writtenOf r ≡ writeReply (now (table .entry)) (now (output .entry)) ⌝ }
-    ensures { λ _. ⌜ now (output .exit) ≡ writeOutput (now (table .entry)) (now (output .entry)) ⌝ }
-{
-    let mut keys = [0u64; 512];
-    write_in(table, many, &mut keys, output, constants)
-}
-
-// The image of a table of up to 4,096 slots.
-fn write_many(
-    table: &[u64],
-    many: usize,
-    output: &mut [u8],
-    constants: &[u64; CONSTANT_COUNT],
-) -> Written
-    requires { ⌜ (0 < many) × (many ≤ 4096) × (length (now table) ≡ tableWords many) × HoldsConstants (now constants) ⌝ }
-    ensures { λ r. ⌜ writtenOf r ≡ writeReply (now (table .entry)) (now (output .entry)) ⌝ }
-    ensures { λ _. ⌜ now (output .exit) ≡ writeOutput (now (table .entry)) (now (output .entry)) ⌝ }
-{
-    let mut keys = [0u64; 4096];
-    write_in(table, many, &mut keys, output, constants)
-}
-
-// The image of a table of `many` slots, with the constants of the priorities made for it.
-fn write_sized(table: &[u64], many: usize, output: &mut [u8]) -> Written
+// The image of a table of `many` slots, with room for the table's keys, and the constants of the priorities made for it.
+fn write_with_room(table: &[u64], many: usize, output: &mut [u8]) -> Written
     requires { ⌜ (0 < many) × (many ≤ mostSlots) × (length (now table) ≡ tableWords many) ⌝ }
     ensures { λ r. ⌜ writtenOf r ≡ writeReply (now (table .entry)) (now (output .entry)) ⌝ }
     ensures { λ _. ⌜ now (output .exit) ≡ writeOutput (now (table .entry)) (now (output .entry)) ⌝ }
 {
     let constants = priority::constant_table();
-    if many <= 512 {
-        return write_few(table, many, output, &constants);
-    }
-    write_many(table, many, output, &constants)
+    let mut keys = [0u64; 4096];
+    write_in(table, many, &mut keys, output, &constants)
 }
 
 // Write the table's image at the start of `output`; how many bytes it has. Refusals: 1, 7, 11.
@@ -96,7 +61,7 @@ pub fn write(table: &[u64], output: &mut [u8]) -> Written
     if many == 0 {
         return Written::Refused(Refusal::WrongLength);
     }
-    write_sized(table, many, output)
+    write_with_room(table, many, output)
 }
 
 // Make a table of `many` slots of an image, with `keys` to work in.
@@ -107,7 +72,7 @@ fn read_in(
     keys: &mut [u64],
     constants: &[u64; CONSTANT_COUNT],
 ) -> ReadBack
-    requires { ⌜ (0 < many) × (many ≤ mostSlots) × (length (now table) ≡ tableWords many) × RoomFor (length (now image)) (length (now keys)) × HoldsConstants (now constants) ⌝ }
+    requires { ⌜ (0 < many) × (many ≤ mostSlots) × (length (now table) ≡ tableWords many) × (length (now keys) ≡ mostSlots) × HoldsConstants (now constants) ⌝ }
     ensures { λ r. ⌜ readBackOf r ≡ readReply (now (table .entry)) (now (image .entry)) ⌝ }
     ensures { λ _. ⌜ now (table .exit) ≡ readAfter (now (table .entry)) (now (image .entry)) ⌝ }
 {
@@ -123,47 +88,15 @@ fn read_in(
     ReadBack::Done
 }
 
-// With room for the keys of an image of up to 15,375 bytes.
-fn read_few(
-    table: &mut [u64],
-    many: usize,
-    image: &[u8],
-    constants: &[u64; CONSTANT_COUNT],
-) -> ReadBack
-    requires { ⌜ (0 < many) × (many ≤ mostSlots) × (length (now table) ≡ tableWords many) × (length (now image) ≤ headerBytes + nodeBytes * 512) × HoldsConstants (now constants) ⌝ }
-    ensures { λ r. ⌜ readBackOf r ≡ readReply (now (table .entry)) (now (image .entry)) ⌝ }
-    ensures { λ _. ⌜ now (table .exit) ≡ readAfter (now (table .entry)) (now (image .entry)) ⌝ }
-{
-    let mut keys = [0u64; 512];
-    read_in(table, many, image, &mut keys, constants)
-}
-
-// With room for the most keys that an image has.
-fn read_many(
-    table: &mut [u64],
-    many: usize,
-    image: &[u8],
-    constants: &[u64; CONSTANT_COUNT],
-) -> ReadBack
-    requires { ⌜ (0 < many) × (many ≤ mostSlots) × (length (now table) ≡ tableWords many) × HoldsConstants (now constants) ⌝ }
-    ensures { λ r. ⌜ readBackOf r ≡ readReply (now (table .entry)) (now (image .entry)) ⌝ }
-    ensures { λ _. ⌜ now (table .exit) ≡ readAfter (now (table .entry)) (now (image .entry)) ⌝ }
-{
-    let mut keys = [0u64; 4096];
-    read_in(table, many, image, &mut keys, constants)
-}
-
-// Make a table of `many` slots of an image, with the constants of the priorities made for it.
-fn read_sized(table: &mut [u64], many: usize, image: &[u8]) -> ReadBack
+// Make a table of `many` slots of an image, with room for the most keys that an image has, and the constants of the priorities made for it.
+fn read_with_room(table: &mut [u64], many: usize, image: &[u8]) -> ReadBack
     requires { ⌜ (0 < many) × (many ≤ mostSlots) × (length (now table) ≡ tableWords many) ⌝ }
     ensures { λ r. ⌜ readBackOf r ≡ readReply (now (table .entry)) (now (image .entry)) ⌝ }
     ensures { λ _. ⌜ now (table .exit) ≡ readAfter (now (table .entry)) (now (image .entry)) ⌝ }
 {
     let constants = priority::constant_table();
-    if image.len() <= MEDIUM_BYTES {
-        return read_few(table, many, image, &constants);
-    }
-    read_many(table, many, image, &constants)
+    let mut keys = [0u64; 4096];
+    read_in(table, many, image, &mut keys, &constants)
 }
 
 // Make of any words of a right length the table whose image the bytes are. Refusals: 1, 6, 10.
@@ -175,5 +108,5 @@ pub fn read(table: &mut [u64], image: &[u8]) -> ReadBack
     if many == 0 {
         return ReadBack::Refused(Refusal::WrongLength);
     }
-    read_sized(table, many, image)
+    read_with_room(table, many, image)
 }

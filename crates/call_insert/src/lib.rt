@@ -10,7 +10,6 @@ ghost use Rattle.call_changes.specs.Known.{Known, RoomFor};
 use call_replies::Inserted;
 use call_replies::Refusal;
 use priority::CONSTANT_COUNT;
-use table::ORDER_WORD;
 use table::SIZE_WORD;
 
 // Insert a key into a sound table of `many` slots, its keys at the start of `keys`, as they then are again. Internal to this library's
@@ -36,9 +35,8 @@ pub fn insert_known(
     if n == many {
         return Inserted::Refused(Refusal::TooManyKeys);
     }
-    let order = table[ORDER_WORD];
     call_sets::put_in(keys, n, key);
-    table_write::write(order, &keys[..n + 1], many, table, constants);
+    call_changes::rewrite(table, many, keys, n + 1, constants);
     Inserted::Rank(table_entries::rank_of(table, many, key, priority))
 }
 
@@ -60,47 +58,15 @@ fn insert_in(
     insert_known(table, many, key, keys, constants)
 }
 
-// Insert a key into a table of up to 512 slots.
-fn insert_few(
-    table: &mut [u64],
-    many: usize,
-    key: u64,
-    constants: &[u64; CONSTANT_COUNT],
-) -> Inserted
-    requires { ⌜ (0 < many) × (many ≤ 512) × (length (now table) ≡ tableWords many) × (1 ≤ key) × HoldsConstants (now constants) ⌝ }
-    ensures { λ r. ⌜ insertedOf r ≡ insertReply (now (table .entry)) key ⌝ }
-    ensures { λ _. ⌜ now (table .exit) ≡ insertAfter (now (table .entry)) key ⌝ }
-{
-    let mut keys = [0u64; 512];
-    insert_in(table, many, key, &mut keys, constants)
-}
-
-// Insert a key into a table of up to 4,096 slots.
-fn insert_many(
-    table: &mut [u64],
-    many: usize,
-    key: u64,
-    constants: &[u64; CONSTANT_COUNT],
-) -> Inserted
-    requires { ⌜ (0 < many) × (many ≤ 4096) × (length (now table) ≡ tableWords many) × (1 ≤ key) × HoldsConstants (now constants) ⌝ }
-    ensures { λ r. ⌜ insertedOf r ≡ insertReply (now (table .entry)) key ⌝ }
-    ensures { λ _. ⌜ now (table .exit) ≡ insertAfter (now (table .entry)) key ⌝ }
-{
-    let mut keys = [0u64; 4096];
-    insert_in(table, many, key, &mut keys, constants)
-}
-
-// Insert a key into a table of `many` slots, the key not zero, with the constants of the priorities made for it.
-fn insert_sized(table: &mut [u64], many: usize, key: u64) -> Inserted
+// Insert a key into a table of `many` slots, the key not zero, with room for the table's keys, and the constants of the priorities made for it.
+fn insert_with_room(table: &mut [u64], many: usize, key: u64) -> Inserted
     requires { ⌜ (0 < many) × (many ≤ mostSlots) × (length (now table) ≡ tableWords many) × (1 ≤ key) ⌝ }
     ensures { λ r. ⌜ insertedOf r ≡ insertReply (now (table .entry)) key ⌝ }
     ensures { λ _. ⌜ now (table .exit) ≡ insertAfter (now (table .entry)) key ⌝ }
 {
     let constants = priority::constant_table();
-    if many <= 512 {
-        return insert_few(table, many, key, &constants);
-    }
-    insert_many(table, many, key, &constants)
+    let mut keys = [0u64; 4096];
+    insert_in(table, many, key, &mut keys, &constants)
 }
 
 // Insert a key; the rank that it then has. Refusals: 1, 3, 7, 8, 10.
@@ -115,5 +81,5 @@ pub fn insert(table: &mut [u64], key: u64) -> Inserted
     if key == 0 {
         return Inserted::Refused(Refusal::ZeroKey);
     }
-    insert_sized(table, many, key)
+    insert_with_room(table, many, key)
 }

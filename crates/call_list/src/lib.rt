@@ -1,18 +1,15 @@
 // The listing of an image: the call, and what the listing program prints.
 ghost use mathlib.Core.Path.{_≡_};
-ghost use Prim.Native.Nat.{_+_, _*_, _≤_};
+ghost use Prim.Native.Nat.{_≤_};
 ghost use lib.ListN.{length};
-ghost use Rattle.image.specs.Layout.{headerBytes, nodeBytes};
-ghost use Rattle.image_collect.specs.Reading.{RoomFor};
 ghost use Rattle.priority.specs.Priority.{HoldsConstants};
-ghost use Rattle.table.specs.Layout.{tableWords};
+ghost use Rattle.table.specs.Layout.{mostSlots, tableWords};
 ghost use Rattle.text.specs.Written.{Written};
 ghost use Rattle.call_replies.specs.Replies.{listedOf};
 ghost use Rattle.call_list.specs.Listed.{listReply, listOutput, programSlots, programRefusal, refusedText, programText};
 use call_replies::Listed;
 use call_replies::ReadBack;
 use call_replies::Refusal;
-use image::MEDIUM_BYTES;
 use image_recognize::Recognized;
 use priority::CONSTANT_COUNT;
 
@@ -28,7 +25,7 @@ fn list_in(
     output: &mut [u8],
     constants: &[u64; CONSTANT_COUNT],
 ) -> Listed
-    requires { ⌜ RoomFor (length (now image)) (length (now keys)) × HoldsConstants (now constants) ⌝ }
+    requires { ⌜ (length (now keys) ≡ mostSlots) × HoldsConstants (now constants) ⌝ }
     ensures { λ r. ⌜ listedOf r ≡ listReply (now (image .entry)) (now (output .entry)) ⌝ }
     ensures { λ _. ⌜ now (output .exit) ≡ listOutput (now (image .entry)) (now (output .entry)) ⌝ }
 {
@@ -42,36 +39,14 @@ fn list_in(
     Listed::Bytes(text_listing::write(image, output))
 }
 
-// Write the listing of an image of up to 15,375 bytes.
-fn list_few(image: &[u8], output: &mut [u8], constants: &[u64; CONSTANT_COUNT]) -> Listed
-    requires { ⌜ (length (now image) ≤ headerBytes + nodeBytes * 512) × HoldsConstants (now constants) ⌝ }
-    ensures { λ r. ⌜ listedOf r ≡ listReply (now (image .entry)) (now (output .entry)) ⌝ }
-    ensures { λ _. ⌜ now (output .exit) ≡ listOutput (now (image .entry)) (now (output .entry)) ⌝ }
-{
-    let mut keys = [0u64; 512];
-    list_in(image, &mut keys, output, constants)
-}
-
-// Write the listing of an image of up to 4,096 keys.
-fn list_many(image: &[u8], output: &mut [u8], constants: &[u64; CONSTANT_COUNT]) -> Listed
-    requires { ⌜ HoldsConstants (now constants) ⌝ }
-    ensures { λ r. ⌜ listedOf r ≡ listReply (now (image .entry)) (now (output .entry)) ⌝ }
-    ensures { λ _. ⌜ now (output .exit) ≡ listOutput (now (image .entry)) (now (output .entry)) ⌝ }
-{
-    let mut keys = [0u64; 4096];
-    list_in(image, &mut keys, output, constants)
-}
-
 // Write the text of an image at the start of `output`; how many bytes it has. Refusals: 6, 11.
 pub fn list(image: &[u8], output: &mut [u8]) -> Listed
     ensures { λ r. ⌜ listedOf r ≡ listReply (now (image .entry)) (now (output .entry)) ⌝ }
     ensures { λ _. ⌜ now (output .exit) ≡ listOutput (now (image .entry)) (now (output .entry)) ⌝ }
 {
     let constants = priority::constant_table();
-    if image.len() <= MEDIUM_BYTES {
-        return list_few(image, output, &constants);
-    }
-    list_many(image, output, &constants)
+    let mut keys = [0u64; 4096];
+    list_in(image, &mut keys, output, &constants)
 }
 
 // The refusal of an image that is read into a table of 1,000 slots; 0 for none.

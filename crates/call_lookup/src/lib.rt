@@ -27,7 +27,7 @@ fn look_up_in(table: &[u64], many: usize, key: u64, constants: &[u64; CONSTANT_C
 }
 
 // The same, with the constants made for it.
-fn look_up_sized(table: &[u64], many: usize, key: u64) -> LookedUp
+fn look_up_with_constants(table: &[u64], many: usize, key: u64) -> LookedUp
     requires { ⌜ (many ≡ slotsFor (length (now table))) × (0 < many) × (1 ≤ key) ⌝ }
     ensures { λ r. ⌜ lookedUpOf r ≡ lookupReply (now (table .entry)) key ⌝ }
 {
@@ -46,5 +46,5 @@ pub fn look_up(table: &[u64], key: u64) -> LookedUp
     if key == 0 {
         return LookedUp::Refused(Refusal::ZeroKey);
     }
-    look_up_sized(table, many, key)
+    look_up_with_constants(table, many, key)
 }

@@ -25,7 +25,7 @@ fn range_in(
     ensures { λ r. ⌜ rangedOf r ≡ rangeReply (now (table .entry)) low high (now (output .entry)) ⌝ }
     ensures { λ _. ⌜ now (output .exit) ≡ rangeOutput (now (table .entry)) low high (now (output .entry)) ⌝ }
 {
-    let found = table_judge::examine_sized(table, many, keys, constants);
+    let found = table_examine::examine(table, many, keys, constants);
     let Verdict::Sound(n) = found else {
         return Ranged::Refused(Refusal::NotSound);
     };
@@ -37,51 +37,15 @@ fn range_in(
     Ranged::Wrote(wanted)
 }
 
-// The range of a table of up to 512 slots.
-fn range_few(
-    table: &[u64],
-    many: usize,
-    low: u64,
-    high: u64,
-    output: &mut [u64],
-    constants: &[u64; CONSTANT_COUNT],
-) -> Ranged
-    requires { ⌜ (0 < many) × (many ≤ 512) × (length (now table) ≡ tableWords many) × (low ≤ high) × HoldsConstants (now constants) ⌝ }
-    ensures { λ r. ⌜ rangedOf r ≡ rangeReply (now (table .entry)) low high (now (output .entry)) ⌝ }
-    ensures { λ _. ⌜ now (output .exit) ≡ rangeOutput (now (table .entry)) low high (now (output .entry)) ⌝ }
-{
-    let mut keys = [0u64; 512];
-    range_in(table, many, low, high, &mut keys, output, constants)
-}
-
-// The range of a table of up to 4,096 slots.
-fn range_many(
-    table: &[u64],
-    many: usize,
-    low: u64,
-    high: u64,
-    output: &mut [u64],
-    constants: &[u64; CONSTANT_COUNT],
-) -> Ranged
-    requires { ⌜ (0 < many) × (many ≤ 4096) × (length (now table) ≡ tableWords many) × (low ≤ high) × HoldsConstants (now constants) ⌝ }
-    ensures { λ r. ⌜ rangedOf r ≡ rangeReply (now (table .entry)) low high (now (output .entry)) ⌝ }
-    ensures { λ _. ⌜ now (output .exit) ≡ rangeOutput (now (table .entry)) low high (now (output .entry)) ⌝ }
-{
-    let mut keys = [0u64; 4096];
-    range_in(table, many, low, high, &mut keys, output, constants)
-}
-
-// The range of a table of `many` slots, with the constants of the priorities made for it.
-fn range_sized(table: &[u64], many: usize, low: u64, high: u64, output: &mut [u64]) -> Ranged
+// The range of a table of `many` slots, with room for the table's keys, and the constants of the priorities made for it.
+fn range_with_room(table: &[u64], many: usize, low: u64, high: u64, output: &mut [u64]) -> Ranged
     requires { ⌜ (0 < many) × (many ≤ mostSlots) × (length (now table) ≡ tableWords many) × (low ≤ high) ⌝ }
     ensures { λ r. ⌜ rangedOf r ≡ rangeReply (now (table .entry)) low high (now (output .entry)) ⌝ }
     ensures { λ _. ⌜ now (output .exit) ≡ rangeOutput (now (table .entry)) low high (now (output .entry)) ⌝ }
 {
     let constants = priority::constant_table();
-    if many <= 512 {
-        return range_few(table, many, low, high, output, &constants);
-    }
-    range_many(table, many, low, high, output, &constants)
+    let mut keys = [0u64; 4096];
+    range_in(table, many, low, high, &mut keys, output, &constants)
 }
 
 // Write at the start of `output` the keys that the table holds from `low` to `high`, both included, rising. Refusals: 1, 4, 7, 11.
@@ -96,5 +60,5 @@ pub fn range(table: &[u64], low: u64, high: u64, output: &mut [u64]) -> Ranged
     if high < low {
         return Ranged::Refused(Refusal::LowAboveHigh);
     }
-    range_sized(table, many, low, high, output)
+    range_with_room(table, many, low, high, output)
 }

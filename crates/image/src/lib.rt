@@ -45,7 +45,5 @@ pub const COUNT_AT: usize = 28;
 // The bytes of the longest image: of 4,096 keys in as many blocks.
 pub const MOST_BYTES: usize = 180239;
 
-// The most bytes with which an image cannot have more than 64 keys, and not more than 512: a header and so many node records.
-pub const SMALL_BYTES: usize = 1935;
-
+// The most bytes with which an image cannot have more than 512 keys: a header and so many node records.
 pub const MEDIUM_BYTES: usize = 15375;

@@ -16,10 +16,10 @@ use image::NODE_BYTES;
 // Write the record of the key at an index, from byte `at` on.
 fn put_key(
     keys: &[u64],
-    left: &[u64],
-    right: &[u64],
-    rank: &[u64],
-    count: &[u64],
+    left: &[u16],
+    right: &[u16],
+    rank: &[u16],
+    count: &[u16],
     i: usize,
     output: &mut [u8],
     at: usize,
@@ -28,19 +28,19 @@ fn put_key(
     requires { ⌜ (i < length (now keys)) × (at + nodeBytes ≤ length (now output)) ⌝ }
     ensures { λ _. ⌜ now (output .exit) ≡ overwrite (now (output .entry)) at (nodeAt (now (keys .entry)) (now (left .entry)) (now (right .entry)) (now (rank .entry)) (now (count .entry)) i) ⌝ }
 {
-    let l = table_encode::key_at(keys, left[i]);
-    let r = table_encode::key_at(keys, right[i]);
-    image_records::put_node(output, at, keys[i], l, r, rank[i], count[i]);
+    let l = table_encode::key_at(keys, left[i] as usize);
+    let r = table_encode::key_at(keys, right[i] as usize);
+    image_records::put_node(output, at, keys[i], l, r, rank[i] as u64, count[i] as u64);
 }
 
 // Write the records of the keys at the indices in `sorted` from `low` up to `high`, from byte `at` on.
 fn put_keys(
     keys: &[u64],
-    left: &[u64],
-    right: &[u64],
-    rank: &[u64],
-    count: &[u64],
-    sorted: &[u64],
+    left: &[u16],
+    right: &[u16],
+    rank: &[u16],
+    count: &[u16],
+    sorted: &[u16],
     low: usize,
     high: usize,
     output: &mut [u8],
@@ -68,13 +68,13 @@ fn put_keys(
 // Write the part of the block that holds the keys at the indices in `sorted` from `low` up to `high`, from byte `at` on.
 fn put_part(
     keys: &[u64],
-    root: u64,
-    left: &[u64],
-    right: &[u64],
-    rank: &[u64],
-    count: &[u64],
-    leader: &[u64],
-    sorted: &[u64],
+    root: usize,
+    left: &[u16],
+    right: &[u16],
+    rank: &[u16],
+    count: &[u16],
+    leader: &[u16],
+    sorted: &[u16],
     low: usize,
     high: usize,
     output: &mut [u8],
@@ -107,14 +107,14 @@ fn put_part(
 // Write the parts of all blocks, behind the header.
 fn put_blocks(
     keys: &[u64],
-    root: u64,
-    left: &[u64],
-    right: &[u64],
-    rank: &[u64],
-    count: &[u64],
-    leader: &[u64],
+    root: usize,
+    left: &[u16],
+    right: &[u16],
+    rank: &[u16],
+    count: &[u16],
+    leader: &[u16],
     weights: &[u64],
-    sorted: &[u64],
+    sorted: &[u16],
     output: &mut [u8],
 )
     requires { ⌜ Listed (now keys) (now left) (now right) (now rank) (now count) ⌝ }
@@ -151,14 +151,14 @@ fn put_blocks(
 pub fn emit(
     order: u64,
     keys: &[u64],
-    root: u64,
-    left: &[u64],
-    right: &[u64],
-    rank: &[u64],
-    count: &[u64],
-    leader: &[u64],
+    root: usize,
+    left: &[u16],
+    right: &[u16],
+    rank: &[u16],
+    count: &[u16],
+    leader: &[u16],
     weights: &[u64],
-    sorted: &[u64],
+    sorted: &[u16],
     output: &mut [u8],
 ) -> usize
     requires { ⌜ Listed (now keys) (now left) (now right) (now rank) (now count) ⌝ }

@@ -2,19 +2,20 @@
 use mathlib.Core.Bool.{Bool, true, false, cond, _&&_}
 use mathlib.Core.List.{List}
 use mathlib.Core.Logic.{_≢_}
-use mathlib.Core.Path.{_≡_, refl, sym, ap, _∙_, subst}
+use mathlib.Core.Path.{_≡_, refl, sym, ap, ap₂, _∙_}
 use Prim.Native.Nat.{ℕ, _<_, _≤_}
 use native.Mathlib.Omega.{arith}
 use lib.Dec.{leb, ltb}
 use lib.ListN.{length, take, drop}
 use lib.Seq.{drop-length}
 use mathlib.Core.List.{_++_, append-nil}
-use borrow.Author.Tests.{le-leb, leb-true}
+use borrow.Author.Tests.{le-leb}
 use Rattle.lists.specs.Lists.{All, same, risesB, every, nonzero, lies, sortBy, overwrite}
 use Rattle.lists.proofs.Tests.{by-test, true-or-false, and-left, and-right, and-both}
 use Rattle.lists.proofs.Sorted.{sorted-length}
 use Rattle.lists.proofs.Start.{starts-with}
 use Rattle.lists.proofs.Overwrite.{overwrite-start}
+use Rattle.lists.proofs.Parts.{overwrite-again}
 use Rattle.priority.specs.Priority.{priorityOf}
 use Rattle.treap.specs.Image.{image, orderBytes}
 use Rattle.table.specs.Layout.{mostSlots, leastOrder, greatestOrder}
@@ -22,15 +23,14 @@ use Rattle.table.specs.Contents.{tableOrder, risingKeys}
 use Rattle.table_decode.proofs.RisingKeys.{rising-says}
 use Rattle.table_prepare.specs.Prepared.{Keys}
 use Rattle.table_prepare.proofs.Writable.{writable}
-use Rattle.image.specs.Layout.{headerBytes, orderAt, IsByte}
+use Rattle.image.specs.Layout.{orderAt, IsByte}
 use Rattle.image.specs.Image.{imageOf, fieldAt, readImage, isImage}
 use Rattle.image.proofs.Judging.{is-image-says, is-image-exactly}
 use Rattle.image.proofs.Lengths.{image-longest}
 use Rattle.image_parts.specs.Written.{writtenTo}
-use Rattle.image_collect.specs.Reading.{readable, intact, keysOf, blocksOf, collected}
+use Rattle.image_collect.specs.Reading.{readable, keysOf, blocksOf, collected}
 use Rattle.image_collect.specs.declared.Collected.{Collected}
 use Rattle.image_collect.specs.declared.Collected.the-variants as collecting
-use Rattle.image_recognize.specs.declared.Recognized.{Recognized}
 use Rattle.image_recognize.specs.declared.Recognized.the-variants.{Image, Other}
 use Rattle.image_recognize.specs.Recognize.{recognized}
 
@@ -150,12 +150,20 @@ module _ (room : ℕ) (bytes : List ℕ) where
 
 -- ---- the lists
 -- the keys collected, then sorted
-pub sorted-shown : (bytes lent held : List ℕ) (n : ℕ) → held ≡ overwrite lent 0 (keysOf bytes) → n ≡ length (keysOf bytes)
+sorted-shown : (bytes lent held : List ℕ) (n : ℕ) → held ≡ overwrite lent 0 (keysOf bytes) → n ≡ length (keysOf bytes)
     → sortBy ltb (take n held) ≡ readImage bytes .keys
 sorted-shown bytes lent held n e h = ap (sortBy ltb) (starts-with held lent (keysOf bytes) n e (sym h)) ∙ sym (keys-are bytes)
 
 pub shown-size : (bytes : List ℕ) (n : ℕ) → n ≡ length (keysOf bytes) → length (readImage bytes .keys) ≡ n
 shown-size bytes n h = ap length (keys-are bytes) ∙ sorted-length (keysOf bytes) ∙ sym h
+
+-- in place
+pub sorted-over : (bytes lent held sorted : List ℕ) (n : ℕ) → held ≡ overwrite lent 0 (keysOf bytes) → n ≡ length (keysOf bytes) → n ≤ length lent
+    → sorted ≡ overwrite held 0 (sortBy ltb (take n held)) → sorted ≡ overwrite lent 0 (readImage bytes .keys)
+sorted-over bytes lent held sorted n e h room s =
+    s
+    ∙ ap₂ (λ (xs ks : List ℕ). overwrite xs 0 ks) e (sorted-shown bytes lent held n e h)
+    ∙ overwrite-again 0 n (keysOf bytes) lent (omega (arith, h)) room (readImage bytes .keys) (sym h ∙ sym (shown-size bytes n h))
 
 -- bytes written over a list of their length
 pub written-over : (old new : List ℕ) → length new ≡ length old → writtenTo old new ≡ new

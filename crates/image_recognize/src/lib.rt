@@ -3,7 +3,7 @@ ghost use mathlib.Core.Bool.{true};
 ghost use mathlib.Core.Path.{_≡_};
 ghost use Prim.Native.Nat.{_+_, _*_, _≤_};
 ghost use lib.ListN.{length};
-ghost use Rattle.lists.specs.Lists.{overwrite, same};
+ghost use Rattle.lists.specs.Lists.{overwrite};
 ghost use Rattle.priority.specs.Priority.{HoldsConstants};
 ghost use Rattle.table.specs.Layout.{mostSlots};
 ghost use Rattle.image.specs.Layout.{headerBytes, nodeBytes};
@@ -14,7 +14,6 @@ use image::MEDIUM_BYTES;
 use image::MOST_BYTES;
 use image::ORDER_AT;
 use image::ORDER_BYTES;
-use image::SMALL_BYTES;
 use image_collect::Collected;
 use priority::CONSTANT_COUNT;
 use table::GREATEST_ORDER;
@@ -28,22 +27,21 @@ pub enum Recognized {
 
 // Recognize an image, with lists to work in; where it is one, its keys, rising, are then at the start of `keys`. What the other lists
 // then hold, and `keys` where it is none, is left open.
-fn recognize_in(
+fn recognize_within(
     image: &[u8],
-    held: &mut [u64],
     weights: &mut [u64],
-    ranking: &mut [u64],
-    spare: &mut [u64],
+    ranking: &mut [u16],
+    spare: &mut [u16],
     copy: &mut [u8],
     keys: &mut [u64],
     constants: &[u64; CONSTANT_COUNT],
 ) -> Recognized
-    requires { ⌜ (length (now held) ≤ mostSlots) × (length (now copy) ≡ length (now image)) × HoldsConstants (now constants) ⌝ }
-    requires { ⌜ RoomFor (length (now image)) (length (now held)) × RoomFor (length (now image)) (length (now weights)) × RoomFor (length (now image)) (length (now ranking)) × RoomFor (length (now image)) (length (now spare)) × RoomFor (length (now image)) (length (now keys)) ⌝ }
+    requires { ⌜ (length (now keys) ≡ mostSlots) × (length (now image) ≤ length (now copy)) × HoldsConstants (now constants) ⌝ }
+    requires { ⌜ RoomFor (length (now image)) (length (now weights)) × RoomFor (length (now image)) (length (now ranking)) × RoomFor (length (now image)) (length (now spare)) ⌝ }
     ensures { λ r. ⌜ r ≡ recognized (now (image .entry)) ⌝ }
     ensures { λ _. ⌜ (isImage (now (image .entry)) ≡ true → now (keys .exit) ≡ overwrite (now (keys .entry)) 0 (readImage (now (image .entry)) .keys)) ⌝ }
 {
-    let found = image_collect::collect(image, held);
+    let found = image_collect::collect(image, keys);
     let Collected::Keys(n) = found else {
         return Recognized::Other;
     };
@@ -51,86 +49,33 @@ fn recognize_in(
     if !intervals::is_within(order, LEAST_ORDER, GREATEST_ORDER) {
         return Recognized::Other;
     }
-    table_decode::sort_keys(held, n, weights, ranking, spare, keys);
+    table_decode::sort_keys(keys, n, weights, ranking, spare);
     if !table_decode::is_rising(&keys[..n]) {
         return Recognized::Other;
     }
-    let size = image_write::write(order, &keys[..n], copy, constants);
-    if size != image.len() {
+    let size = image.len();
+    let written = image_write::write(order, &keys[..n], &mut copy[..size], constants);
+    if written != size {
         return Recognized::Other;
     }
-    if !image_equal::same_bytes(image, copy) {
+    if !image_equal::same_bytes(image, &copy[..size]) {
         return Recognized::Other;
     }
     Recognized::Image(n)
 }
 
-// The same with `copy` at least as long as the image.
-fn recognize_within(
-    image: &[u8],
-    held: &mut [u64],
-    weights: &mut [u64],
-    ranking: &mut [u64],
-    spare: &mut [u64],
-    copy: &mut [u8],
-    keys: &mut [u64],
-    constants: &[u64; CONSTANT_COUNT],
-) -> Recognized
-    requires { ⌜ (length (now held) ≤ mostSlots) × (length (now image) ≤ length (now copy)) × HoldsConstants (now constants) ⌝ }
-    requires { ⌜ RoomFor (length (now image)) (length (now held)) × RoomFor (length (now image)) (length (now weights)) × RoomFor (length (now image)) (length (now ranking)) × RoomFor (length (now image)) (length (now spare)) × RoomFor (length (now image)) (length (now keys)) ⌝ }
+// An image of up to 15,375 bytes, which has at most 512 keys. To clear room for the longest would take longer than the rest.
+fn recognize_few(image: &[u8], keys: &mut [u64], constants: &[u64; CONSTANT_COUNT]) -> Recognized
+    requires { ⌜ (length (now image) ≤ headerBytes + nodeBytes * 512) × (length (now keys) ≡ mostSlots) × HoldsConstants (now constants) ⌝ }
     ensures { λ r. ⌜ r ≡ recognized (now (image .entry)) ⌝ }
     ensures { λ _. ⌜ (isImage (now (image .entry)) ≡ true → now (keys .exit) ≡ overwrite (now (keys .entry)) 0 (readImage (now (image .entry)) .keys)) ⌝ }
 {
-    let size = image.len();
-    recognize_in(
-        image,
-        held,
-        weights,
-        ranking,
-        spare,
-        &mut copy[..size],
-        keys,
-        constants,
-    )
-}
-
-// An image of up to 1,935 bytes, which has at most 64 keys.
-fn recognize_small(image: &[u8], keys: &mut [u64], constants: &[u64; CONSTANT_COUNT]) -> Recognized
-    requires { ⌜ (length (now image) ≤ headerBytes + nodeBytes * 64) × RoomFor (length (now image)) (length (now keys)) × HoldsConstants (now constants) ⌝ }
-    ensures { λ r. ⌜ r ≡ recognized (now (image .entry)) ⌝ }
-    ensures { λ _. ⌜ (isImage (now (image .entry)) ≡ true → now (keys .exit) ≡ overwrite (now (keys .entry)) 0 (readImage (now (image .entry)) .keys)) ⌝ }
-{
-    let mut held = [0u64; 64];
-    let mut weights = [0u64; 64];
-    let mut ranking = [0u64; 64];
-    let mut spare = [0u64; 64];
-    let mut copy = [0u8; SMALL_BYTES];
-    recognize_within(
-        image,
-        &mut held,
-        &mut weights,
-        &mut ranking,
-        &mut spare,
-        &mut copy,
-        keys,
-        constants,
-    )
-}
-
-// An image of up to 15,375 bytes, which has at most 512 keys.
-fn recognize_medium(image: &[u8], keys: &mut [u64], constants: &[u64; CONSTANT_COUNT]) -> Recognized
-    requires { ⌜ (length (now image) ≤ headerBytes + nodeBytes * 512) × RoomFor (length (now image)) (length (now keys)) × HoldsConstants (now constants) ⌝ }
-    ensures { λ r. ⌜ r ≡ recognized (now (image .entry)) ⌝ }
-    ensures { λ _. ⌜ (isImage (now (image .entry)) ≡ true → now (keys .exit) ≡ overwrite (now (keys .entry)) 0 (readImage (now (image .entry)) .keys)) ⌝ }
-{
-    let mut held = [0u64; 512];
     let mut weights = [0u64; 512];
-    let mut ranking = [0u64; 512];
-    let mut spare = [0u64; 512];
+    let mut ranking = [0u16; 512];
+    let mut spare = [0u16; 512];
     let mut copy = [0u8; MEDIUM_BYTES];
     recognize_within(
         image,
-        &mut held,
         &mut weights,
         &mut ranking,
         &mut spare,
@@ -141,19 +86,17 @@ fn recognize_medium(image: &[u8], keys: &mut [u64], constants: &[u64; CONSTANT_C
 }
 
 // An image of up to 180,239 bytes.
-fn recognize_large(image: &[u8], keys: &mut [u64], constants: &[u64; CONSTANT_COUNT]) -> Recognized
-    requires { ⌜ (length (now image) ≤ 180239) × RoomFor (length (now image)) (length (now keys)) × HoldsConstants (now constants) ⌝ }
+fn recognize_many(image: &[u8], keys: &mut [u64], constants: &[u64; CONSTANT_COUNT]) -> Recognized
+    requires { ⌜ (length (now image) ≤ 180239) × (length (now keys) ≡ mostSlots) × HoldsConstants (now constants) ⌝ }
     ensures { λ r. ⌜ r ≡ recognized (now (image .entry)) ⌝ }
     ensures { λ _. ⌜ (isImage (now (image .entry)) ≡ true → now (keys .exit) ≡ overwrite (now (keys .entry)) 0 (readImage (now (image .entry)) .keys)) ⌝ }
 {
-    let mut held = [0u64; 4096];
     let mut weights = [0u64; 4096];
-    let mut ranking = [0u64; 4096];
-    let mut spare = [0u64; 4096];
+    let mut ranking = [0u16; 4096];
+    let mut spare = [0u16; 4096];
     let mut copy = [0u8; MOST_BYTES];
     recognize_within(
         image,
-        &mut held,
         &mut weights,
         &mut ranking,
         &mut spare,
@@ -163,22 +106,18 @@ fn recognize_large(image: &[u8], keys: &mut [u64], constants: &[u64; CONSTANT_CO
     )
 }
 
-// Recognize an image, with no more room than images of about its size need; where it is one, its keys, rising, are then at the start of
-// `keys`; else what `keys` holds is left open. Internal to this library's crates: their lists have room for the keys of an image of this
-// length, and they lend the constants of the priorities.
+// Recognize an image; where it is one, its keys, rising, are then at the start of `keys`; else what `keys` holds is left open. Internal to
+// this library's crates: their lists have room for the most keys that an image has, and they lend the constants of the priorities.
 pub fn recognize(image: &[u8], keys: &mut [u64], constants: &[u64; CONSTANT_COUNT]) -> Recognized
-    requires { ⌜ RoomFor (length (now image)) (length (now keys)) × HoldsConstants (now constants) ⌝ }
+    requires { ⌜ (length (now keys) ≡ mostSlots) × HoldsConstants (now constants) ⌝ }
     ensures { λ r. ⌜ r ≡ recognized (now (image .entry)) ⌝ }
     ensures { λ _. ⌜ (isImage (now (image .entry)) ≡ true → now (keys .exit) ≡ overwrite (now (keys .entry)) 0 (readImage (now (image .entry)) .keys)) ⌝ }
 {
     if MOST_BYTES < image.len() {
         return Recognized::Other;
     }
-    if image.len() <= SMALL_BYTES {
-        return recognize_small(image, keys, constants);
-    }
     if image.len() <= MEDIUM_BYTES {
-        return recognize_medium(image, keys, constants);
+        return recognize_few(image, keys, constants);
     }
-    recognize_large(image, keys, constants)
+    recognize_many(image, keys, constants)
 }

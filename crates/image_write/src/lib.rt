@@ -1,4 +1,4 @@
-// Writing an image with no more room to work in than sets of about its size need.
+// Writing the image of an order and keys.
 ghost use mathlib.Core.Path.{_≡_};
 ghost use Prim.Native.Nat.{_≤_};
 ghost use lib.ListN.{length};
@@ -6,113 +6,94 @@ ghost use Rattle.priority.specs.Priority.{HoldsConstants, priorityOf};
 ghost use Rattle.treap.specs.Image.{image};
 ghost use Rattle.table_prepare.specs.Prepared.{Keys};
 ghost use Rattle.image_parts.specs.Written.{writtenTo};
+ghost use Rattle.image_write.specs.Arranged.{Arranged};
 use priority::CONSTANT_COUNT;
 
-// The image of up to 64 keys.
-fn write_small(
+// Make of the keys all that an image is written from; the position of the root. What `spare` then holds is left open.
+fn arrange(
     order: u64,
     keys: &[u64],
-    output: &mut [u8],
+    weights: &mut [u64],
+    sorted: &mut [u16],
+    left: &mut [u16],
+    right: &mut [u16],
+    rank: &mut [u16],
+    count: &mut [u16],
+    leader: &mut [u16],
+    spare: &mut [u16],
     constants: &[u64; CONSTANT_COUNT],
 ) -> usize
     requires { ⌜ Keys order (now keys) ⌝ }
-    requires { ⌜ (length (now keys) ≤ 64) × HoldsConstants (now constants) ⌝ }
-    ensures { λ r. ⌜ r ≡ length (image order priorityOf (now (keys .entry))) ⌝ }
-    ensures { λ _. ⌜ now (output .exit) ≡ writtenTo (now (output .entry)) (image order priorityOf (now (keys .entry))) ⌝ }
+    requires { ⌜ (length (now keys) ≤ length (now weights)) × (length (now keys) ≤ length (now sorted)) × (length (now keys) ≤ length (now spare)) ⌝ }
+    requires { ⌜ (length (now keys) ≤ length (now left)) × (length (now keys) ≤ length (now right)) ⌝ }
+    requires { ⌜ (length (now keys) ≤ length (now rank)) × (length (now keys) ≤ length (now count)) × (length (now keys) ≤ length (now leader)) × HoldsConstants (now constants) ⌝ }
+    ensures { λ r. ⌜ Arranged order (now (keys .entry)) (now (weights .exit)) (now (sorted .exit)) (now (left .exit)) (now (right .exit)) (now (rank .exit)) (now (count .exit)) (now (leader .exit)) r ⌝ }
 {
-    let mut weights = [0u64; 64];
-    let mut sorted = [0u64; 64];
-    let mut left = [0u64; 64];
-    let mut right = [0u64; 64];
-    let mut rank = [0u64; 64];
-    let mut count = [0u64; 64];
-    let mut leader = [0u64; 64];
-    let mut spare = [0u64; 64];
-    image_arrange::write(
+    let n = keys.len();
+    table_prepare::prioritize(keys, weights, sorted, spare, constants);
+    let root = table_prepare::fill(
+        &weights[..n],
         order,
-        keys,
-        &mut weights,
-        &mut sorted,
-        &mut left,
-        &mut right,
-        &mut rank,
-        &mut count,
-        &mut leader,
-        &mut spare,
-        output,
-        constants,
-    )
+        sorted,
+        left,
+        right,
+        rank,
+        count,
+        leader,
+    );
+    image_blocks::names::weigh(n, root, rank, leader, weights);
+    sorting::by_weight(weights, n, sorted, spare);
+    root
 }
 
-// The image of up to 512 keys.
-fn write_medium(
+// Write the image of the order and the keys, with lists to work in, each at least as long as the keys; what they then hold is left open.
+fn write_within(
     order: u64,
     keys: &[u64],
+    weights: &mut [u64],
+    sorted: &mut [u16],
+    left: &mut [u16],
+    right: &mut [u16],
+    rank: &mut [u16],
+    count: &mut [u16],
+    leader: &mut [u16],
+    spare: &mut [u16],
     output: &mut [u8],
     constants: &[u64; CONSTANT_COUNT],
 ) -> usize
     requires { ⌜ Keys order (now keys) ⌝ }
-    requires { ⌜ (length (now keys) ≤ 512) × HoldsConstants (now constants) ⌝ }
+    requires { ⌜ (length (now keys) ≤ length (now weights)) × (length (now keys) ≤ length (now sorted)) × (length (now keys) ≤ length (now spare)) ⌝ }
+    requires { ⌜ (length (now keys) ≤ length (now left)) × (length (now keys) ≤ length (now right)) ⌝ }
+    requires { ⌜ (length (now keys) ≤ length (now rank)) × (length (now keys) ≤ length (now count)) × (length (now keys) ≤ length (now leader)) × HoldsConstants (now constants) ⌝ }
     ensures { λ r. ⌜ r ≡ length (image order priorityOf (now (keys .entry))) ⌝ }
     ensures { λ _. ⌜ now (output .exit) ≡ writtenTo (now (output .entry)) (image order priorityOf (now (keys .entry))) ⌝ }
 {
-    let mut weights = [0u64; 512];
-    let mut sorted = [0u64; 512];
-    let mut left = [0u64; 512];
-    let mut right = [0u64; 512];
-    let mut rank = [0u64; 512];
-    let mut count = [0u64; 512];
-    let mut leader = [0u64; 512];
-    let mut spare = [0u64; 512];
-    image_arrange::write(
+    let n = keys.len();
+    let root = arrange(
         order,
         keys,
-        &mut weights,
-        &mut sorted,
-        &mut left,
-        &mut right,
-        &mut rank,
-        &mut count,
-        &mut leader,
-        &mut spare,
-        output,
+        weights,
+        sorted,
+        left,
+        right,
+        rank,
+        count,
+        leader,
+        spare,
         constants,
-    )
-}
-
-// The image of up to 4,096 keys.
-fn write_large(
-    order: u64,
-    keys: &[u64],
-    output: &mut [u8],
-    constants: &[u64; CONSTANT_COUNT],
-) -> usize
-    requires { ⌜ Keys order (now keys) ⌝ }
-    requires { ⌜ (length (now keys) ≤ 4096) × HoldsConstants (now constants) ⌝ }
-    ensures { λ r. ⌜ r ≡ length (image order priorityOf (now (keys .entry))) ⌝ }
-    ensures { λ _. ⌜ now (output .exit) ≡ writtenTo (now (output .entry)) (image order priorityOf (now (keys .entry))) ⌝ }
-{
-    let mut weights = [0u64; 4096];
-    let mut sorted = [0u64; 4096];
-    let mut left = [0u64; 4096];
-    let mut right = [0u64; 4096];
-    let mut rank = [0u64; 4096];
-    let mut count = [0u64; 4096];
-    let mut leader = [0u64; 4096];
-    let mut spare = [0u64; 4096];
-    image_arrange::write(
+    );
+    image_parts::emit(
         order,
         keys,
-        &mut weights,
-        &mut sorted,
-        &mut left,
-        &mut right,
-        &mut rank,
-        &mut count,
-        &mut leader,
-        &mut spare,
+        root,
+        left,
+        right,
+        rank,
+        count,
+        leader,
+        &weights[..n],
+        &sorted[..n],
         output,
-        constants,
     )
 }
 
@@ -128,12 +109,26 @@ pub fn write(
     ensures { λ r. ⌜ r ≡ length (image order priorityOf (now (keys .entry))) ⌝ }
     ensures { λ _. ⌜ now (output .exit) ≡ writtenTo (now (output .entry)) (image order priorityOf (now (keys .entry))) ⌝ }
 {
-    let n = keys.len();
-    if n <= 64 {
-        return write_small(order, keys, output, constants);
-    }
-    if n <= 512 {
-        return write_medium(order, keys, output, constants);
-    }
-    write_large(order, keys, output, constants)
+    let mut weights = [0u64; 4096];
+    let mut sorted = [0u16; 4096];
+    let mut left = [0u16; 4096];
+    let mut right = [0u16; 4096];
+    let mut rank = [0u16; 4096];
+    let mut count = [0u16; 4096];
+    let mut leader = [0u16; 4096];
+    let mut spare = [0u16; 4096];
+    write_within(
+        order,
+        keys,
+        &mut weights,
+        &mut sorted,
+        &mut left,
+        &mut right,
+        &mut rank,
+        &mut count,
+        &mut leader,
+        &mut spare,
+        output,
+        constants,
+    )
 }

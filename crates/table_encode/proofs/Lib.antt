@@ -4,3 +4,4 @@ pub mod Emitting
 pub mod Matching
 pub mod Renaming
 pub mod Fresh
+pub mod Linking

@@ -1,7 +1,7 @@
 // Writing the words of a table from the columns of its keys, and comparing a table with them.
 ghost use mathlib.Core.Path.{_≡_};
-ghost use mathlib.Core.List.{_∷_, [], _++_};
-ghost use Prim.Native.Nat.{_+_, _<_, _≤_};
+ghost use mathlib.Core.List.{_∷_, []};
+ghost use Prim.Native.Nat.{_+_, _≤_};
 ghost use lib.ListN.{length, take, drop};
 ghost use Rattle.lists.specs.Lists.{overwrite, same, All};
 ghost use Rattle.table.specs.Layout.{tableWords, slotWords};
@@ -19,14 +19,14 @@ use table::SIZE_WORD;
 use table::SLOT_WORDS;
 
 // The key at a position; 0 at position 0. Internal to this library's crates.
-pub fn key_at(keys: &[u64], position: u64) -> u64
+pub fn key_at(keys: &[u64], position: usize) -> u64
     requires { ⌜ position ≤ length (now keys) ⌝ }
     ensures { λ r. ⌜ r ≡ keyAt (now (keys .entry)) position ⌝ }
 {
     if position == 0 {
         return 0;
     }
-    keys[(position - 1) as usize]
+    keys[position - 1]
 }
 
 // Write the six words of a slot, from word `at` on.
@@ -54,12 +54,12 @@ fn write_slot(
 // Write the slot that a position is in, from word `at` on.
 fn emit_slot(
     keys: &[u64],
-    left: &[u64],
-    right: &[u64],
-    leader: &[u64],
-    rank: &[u64],
-    count: &[u64],
-    position: u64,
+    left: &[u16],
+    right: &[u16],
+    leader: &[u16],
+    rank: &[u16],
+    count: &[u16],
+    position: usize,
     table: &mut [u64],
     at: usize,
 )
@@ -71,25 +71,25 @@ fn emit_slot(
         write_slot(table, at, 0, 0, 0, 0, 0, 0);
         return;
     }
-    let i = (position - 1) as usize;
+    let i = position - 1;
     let key = keys[i];
-    let l = key_at(keys, left[i]);
-    let r = key_at(keys, right[i]);
-    let d = key_at(keys, leader[i]);
-    write_slot(table, at, key, l, r, d, rank[i], count[i]);
+    let l = key_at(keys, left[i] as usize);
+    let r = key_at(keys, right[i] as usize);
+    let d = key_at(keys, leader[i] as usize);
+    write_slot(table, at, key, l, r, d, rank[i] as u64, count[i] as u64);
 }
 
 // Write the words of the table: the header, then each slot. Internal to this library's crates.
 pub fn emit(
     order: u64,
     keys: &[u64],
-    root: u64,
-    left: &[u64],
-    right: &[u64],
-    leader: &[u64],
-    rank: &[u64],
-    count: &[u64],
-    slots: &[u64],
+    root: usize,
+    left: &[u16],
+    right: &[u16],
+    leader: &[u16],
+    rank: &[u16],
+    count: &[u16],
+    slots: &[u16],
     table: &mut [u64],
 )
     requires { ⌜ Linked (now keys) (record { left = now left; right = now right; leader = now leader; rank = now rank; count = now count }) ⌝ }
@@ -108,7 +108,7 @@ pub fn emit(
             leader,
             rank,
             count,
-            slots[s],
+            slots[s] as usize,
             table,
             HEADER_WORDS + SLOT_WORDS * s,
         );
@@ -150,12 +150,12 @@ fn slot_is(
 // Whether the slot from word `at` on is the one that a position is in.
 fn slot_matches(
     keys: &[u64],
-    left: &[u64],
-    right: &[u64],
-    leader: &[u64],
-    rank: &[u64],
-    count: &[u64],
-    position: u64,
+    left: &[u16],
+    right: &[u16],
+    leader: &[u16],
+    rank: &[u16],
+    count: &[u16],
+    position: usize,
     table: &[u64],
     at: usize,
 ) -> bool
@@ -166,25 +166,25 @@ fn slot_matches(
     if position == 0 {
         return slot_is(table, at, 0, 0, 0, 0, 0, 0);
     }
-    let i = (position - 1) as usize;
+    let i = position - 1;
     let key = keys[i];
-    let l = key_at(keys, left[i]);
-    let r = key_at(keys, right[i]);
-    let d = key_at(keys, leader[i]);
-    slot_is(table, at, key, l, r, d, rank[i], count[i])
+    let l = key_at(keys, left[i] as usize);
+    let r = key_at(keys, right[i] as usize);
+    let d = key_at(keys, leader[i] as usize);
+    slot_is(table, at, key, l, r, d, rank[i] as u64, count[i] as u64)
 }
 
 // Whether the table has exactly the words that `emit` would write. Internal to this library's crates.
 pub fn matches(
     order: u64,
     keys: &[u64],
-    root: u64,
-    left: &[u64],
-    right: &[u64],
-    leader: &[u64],
-    rank: &[u64],
-    count: &[u64],
-    slots: &[u64],
+    root: usize,
+    left: &[u16],
+    right: &[u16],
+    leader: &[u16],
+    rank: &[u16],
+    count: &[u16],
+    slots: &[u16],
     table: &[u64],
 ) -> bool
     requires { ⌜ Linked (now keys) (record { left = now left; right = now right; leader = now leader; rank = now rank; count = now count }) ⌝ }
@@ -209,7 +209,7 @@ pub fn matches(
             leader,
             rank,
             count,
-            slots[s],
+            slots[s] as usize,
             table,
             HEADER_WORDS + SLOT_WORDS * s,
         ) {

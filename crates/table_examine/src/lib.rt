@@ -18,24 +18,23 @@ pub enum Verdict {
     Unsound,
 }
 
-// Write at the start of `keys` the keys in the slots of a table, rising; how many there are. What the other lists then hold is
-// left open.
+// Write at the start of `keys` what a table of `many` slots shows as its keys, rising where they differ; how many there are. What the other lists
+// then hold is left open.
 fn read_keys(
     table: &[u64],
     many: usize,
-    held: &mut [u64],
-    weights: &mut [u64],
-    ranking: &mut [u64],
-    spare: &mut [u64],
     keys: &mut [u64],
+    weights: &mut [u64],
+    ranking: &mut [u16],
+    spare: &mut [u16],
 ) -> usize
-    requires { ⌜ tableWords many ≤ length (now table) ⌝ }
-    requires { ⌜ (many ≤ length (now held)) × (many ≤ length (now weights)) × (many ≤ length (now ranking)) × (many ≤ length (now spare)) × (many ≤ length (now keys)) ⌝ }
+    requires { ⌜ (tableWords many ≤ length (now table)) × (many ≤ mostSlots) ⌝ }
+    requires { ⌜ (many ≤ length (now keys)) × (many ≤ length (now weights)) × (many ≤ length (now ranking)) × (many ≤ length (now spare)) ⌝ }
     ensures { λ r. ⌜ r ≡ length (contentsOf many (now (table .entry)) .keys) ⌝ }
     ensures { λ _. ⌜ now (keys .exit) ≡ overwrite (now (keys .entry)) 0 (contentsOf many (now (table .entry)) .keys) ⌝ }
 {
-    let n = table_decode::collect(table, many, held);
-    table_decode::sort_keys(held, n, weights, ranking, spare, keys);
+    let n = table_decode::collect(table, many, keys);
+    table_decode::sort_keys(keys, n, weights, ranking, spare);
     n
 }
 
@@ -50,27 +49,24 @@ fn conclude(same: bool, n: usize) -> Verdict
     }
 }
 
-// Examine a table of `many` slots; where it is sound, its keys, rising, are then at the start of `keys`; where it is not, what `keys`
-// holds is left open. Internal to this library's crates: the other lists are room to work in, as long as the table has slots; what they then hold
-// is left open. The constants of the priorities are lent.
-pub fn examine(
+// Examine a table of `many` slots, with lists to work in that are at least as long as it has slots; what they then hold is left open.
+fn examine_within(
     table: &[u64],
     many: usize,
     keys: &mut [u64],
     weights: &mut [u64],
-    ranking: &mut [u64],
-    left: &mut [u64],
-    right: &mut [u64],
-    rank: &mut [u64],
-    count: &mut [u64],
-    leader: &mut [u64],
-    slots: &mut [u64],
+    ranking: &mut [u16],
+    left: &mut [u16],
+    right: &mut [u16],
+    rank: &mut [u16],
+    count: &mut [u16],
+    leader: &mut [u16],
+    slots: &mut [u16],
     constants: &[u64; CONSTANT_COUNT],
 ) -> Verdict
-    requires { ⌜ (0 < many) × (many ≤ mostSlots) × (length (now table) ≡ tableWords many) × (length (now slots) ≡ many) ⌝ }
-    requires { ⌜ (many ≤ length (now keys)) × (many ≤ length (now weights)) × (many ≤ length (now ranking)) ⌝ }
-    requires { ⌜ (many ≤ length (now left)) × (many ≤ length (now right)) × (many ≤ length (now rank)) ⌝ }
-    requires { ⌜ (many ≤ length (now count)) × (many ≤ length (now leader)) × HoldsConstants (now constants) ⌝ }
+    requires { ⌜ (0 < many) × (many ≤ mostSlots) × (length (now table) ≡ tableWords many) × (many ≤ length (now keys)) ⌝ }
+    requires { ⌜ (many ≤ length (now weights)) × (many ≤ length (now ranking)) × (many ≤ length (now left)) × (many ≤ length (now right)) ⌝ }
+    requires { ⌜ (many ≤ length (now rank)) × (many ≤ length (now count)) × (many ≤ length (now leader)) × (many ≤ length (now slots)) × HoldsConstants (now constants) ⌝ }
     ensures { λ r. ⌜ r ≡ verdictOf many (now (table .entry)) ⌝ }
     ensures { λ _. ⌜ (soundWith many (now (table .entry)) ≡ true → now (keys .exit) ≡ overwrite (now (keys .entry)) 0 (contentsOf many (now (table .entry)) .keys)) ⌝ }
 {
@@ -78,13 +74,14 @@ pub fn examine(
     if !table_limits::is_order(order) {
         return Verdict::Unsound;
     }
-    let n = read_keys(table, many, rank, weights, ranking, left, keys);
+    let n = read_keys(table, many, keys, weights, ranking, left);
     if !table_decode::rises(keys, n) {
         return Verdict::Unsound;
     }
-    let same = table_assemble::compare(
+    let root = table_prepare::prepare(
         order,
         &keys[..n],
+        many,
         weights,
         ranking,
         left,
@@ -93,8 +90,55 @@ pub fn examine(
         count,
         leader,
         slots,
-        table,
         constants,
     );
+    let same = table_encode::matches(
+        order,
+        &keys[..n],
+        root,
+        left,
+        right,
+        leader,
+        rank,
+        count,
+        &slots[..many],
+        table,
+    );
     conclude(same, n)
+}
+
+// Examine a table of `many` slots; where it is sound, its keys, rising, are then at the start of `keys`; where it is not, what `keys`
+// holds is left open. Internal to this library's crates: they lend the constants of the priorities.
+pub fn examine(
+    table: &[u64],
+    many: usize,
+    keys: &mut [u64],
+    constants: &[u64; CONSTANT_COUNT],
+) -> Verdict
+    requires { ⌜ (0 < many) × (many ≤ mostSlots) × (length (now table) ≡ tableWords many) × (many ≤ length (now keys)) × HoldsConstants (now constants) ⌝ }
+    ensures { λ r. ⌜ r ≡ verdictOf many (now (table .entry)) ⌝ }
+    ensures { λ _. ⌜ (soundWith many (now (table .entry)) ≡ true → now (keys .exit) ≡ overwrite (now (keys .entry)) 0 (contentsOf many (now (table .entry)) .keys)) ⌝ }
+{
+    let mut weights = [0u64; 4096];
+    let mut ranking = [0u16; 4096];
+    let mut left = [0u16; 4096];
+    let mut right = [0u16; 4096];
+    let mut rank = [0u16; 4096];
+    let mut count = [0u16; 4096];
+    let mut leader = [0u16; 4096];
+    let mut slots = [0u16; 4096];
+    examine_within(
+        table,
+        many,
+        keys,
+        &mut weights,
+        &mut ranking,
+        &mut left,
+        &mut right,
+        &mut rank,
+        &mut count,
+        &mut leader,
+        &mut slots,
+        constants,
+    )
 }

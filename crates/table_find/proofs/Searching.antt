@@ -98,7 +98,7 @@ module _ (many : ℕ) (f : ℕ → Bool) where
 
 -- ---- the whole search
 module _ (many : ℕ) (words : List ℕ) (key priority : ℕ) (some : 0 < many) where
-  pub search-starts : slotFound many words key priority ≡ first many (stopsAt words key) (inTurn many (homeOf priority many) many)
+  search-starts : slotFound many words key priority ≡ first many (stopsAt words key) (inTurn many (homeOf priority many) many)
   unfolding slotFound
   search-starts = ap (first many (stopsAt words key)) (probes-in-turn many (homeOf priority many) (homeOf-below priority some))
 

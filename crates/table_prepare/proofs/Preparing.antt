@@ -95,18 +95,25 @@ module _ (ks weights : List ℕ) (weights-are : take (length ks) weights ≡ map
       → InOrder (take (length ks) weights) (take (length ks) ranking)
   ranking-in-order ranking e = subst₂ InOrder (sym weights-are) (sym e) (in-order (map priorityOf ks))
 
+  pub placed-many : (slots lent : List ℕ)
+      → slots ≡ slotsOf (weightAt (take (length ks) weights)) (λ i. homeOf (weightAt (take (length ks) weights) i) (length lent)) (length lent) (positions (length (take (length ks) weights)))
+      → length slots ≡ length lent
+  unfolding slotsOf
+  placed-many slots lent s =
+      ap length s
+      ∙ placeAll-length (λ i. homeOf (weightAt (take (length ks) weights) i) (length lent)) (replicate (length lent) 0)
+      (sortBy (outranks (weightAt (take (length ks) weights))) (positions (length (take (length ks) weights))))
+      ∙ length-replicate (length lent) 0
+
   pub prepared-from : (order : ℕ) (left right rank count lead slots lent : List ℕ) (root : ℕ)
       → root ≡ top (weightAt (take (length ks) weights)) (positions (length (take (length ks) weights)))
       → Filled order (take (length ks) weights) left right rank count lead
       → slots ≡ slotsOf (weightAt (take (length ks) weights)) (λ i. homeOf (weightAt (take (length ks) weights) i) (length lent)) (length lent) (positions (length (take (length ks) weights)))
       → Prepared order ks left right rank count lead slots root
-  unfolding slotsOf
   prepared-from order left right rank count lead slots lent root r f s =
       let ws = map priorityOf ks in
       let n = length ks in
-      let same : length slots ≡ length lent =
-      ap length s ∙ placeAll-length (λ i. homeOf (weightAt (take n weights) i) (length lent)) (replicate (length lent) 0) (sortBy (outranks (weightAt (take n weights))) (positions (length (take n weights)))) ∙ length-replicate (length lent) 0
-      in
+      let same = placed-many slots lent s in
       let filled : Filled order ws left right rank count lead = subst (λ (w : List ℕ). Filled order w left right rank count lead) weights-are f in
       let space : (column : List ℕ) (g : ℕ → ℕ) → take (length ws) column ≡ map g (positions (length ws)) → n ≤ length column =
       λ column g e. let h = room column (map g (positions (length ws))) (length ws) e (column-length g (length ws)) in let m = length-map ks priorityOf in omega arith

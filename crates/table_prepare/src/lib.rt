@@ -17,11 +17,11 @@ use priority::CONSTANT_COUNT;
 pub fn prioritize(
     keys: &[u64],
     weights: &mut [u64],
-    ranking: &mut [u64],
-    spare: &mut [u64],
+    ranking: &mut [u16],
+    spare: &mut [u16],
     constants: &[u64; CONSTANT_COUNT],
 )
-    requires { ⌜ (length (now keys) ≤ length (now weights)) × (length (now keys) ≤ length (now ranking)) × (length (now keys) ≤ length (now spare)) × HoldsConstants (now constants) ⌝ }
+    requires { ⌜ (length (now keys) ≤ length (now weights)) × (length (now keys) ≤ length (now ranking)) × (length (now keys) ≤ length (now spare)) × (length (now keys) ≤ mostSlots) × HoldsConstants (now constants) ⌝ }
     ensures { λ _. ⌜ take (length (now (keys .entry))) (now (weights .exit)) ≡ map priorityOf (now (keys .entry)) ⌝ }
     ensures { λ _. ⌜ take (length (now (keys .entry))) (now (ranking .exit)) ≡ byWeight (map priorityOf (now (keys .entry))) ⌝ }
 {
@@ -34,12 +34,12 @@ pub fn prioritize(
 pub fn fill(
     weights: &[u64],
     order: u64,
-    ranking: &[u64],
-    left: &mut [u64],
-    right: &mut [u64],
-    rank: &mut [u64],
-    count: &mut [u64],
-    leader: &mut [u64],
+    ranking: &[u16],
+    left: &mut [u16],
+    right: &mut [u16],
+    rank: &mut [u16],
+    count: &mut [u16],
+    leader: &mut [u16],
 ) -> usize
     requires { ⌜ (2 ≤ order) × (order ≤ greatestOrder) × (length (now weights) ≤ mostSlots) ⌝ }
     requires { ⌜ (length (now weights) ≤ length (now ranking)) × InOrder (now weights) (take (length (now weights)) (now ranking)) ⌝ }
@@ -55,31 +55,34 @@ pub fn fill(
     root
 }
 
-// Make of the keys all that a table is written from; the position of the root. What `weights` and `ranking` then hold, and the columns past
-// as many words as there are keys, is left open. Internal to this library's crates: they lend the constants of the priorities.
+// Make of the keys all that a table of `many` slots is written from; the position of the root. What `weights` and `ranking` then hold, the
+// columns past as many words as there are keys, and `slots` past `many`, is left open. Internal to this library's crates: their lists are at
+// least as long as the table has slots, and they lend the constants of the priorities.
 pub fn prepare(
     order: u64,
     keys: &[u64],
+    many: usize,
     weights: &mut [u64],
-    ranking: &mut [u64],
-    left: &mut [u64],
-    right: &mut [u64],
-    rank: &mut [u64],
-    count: &mut [u64],
-    leader: &mut [u64],
-    slots: &mut [u64],
+    ranking: &mut [u16],
+    left: &mut [u16],
+    right: &mut [u16],
+    rank: &mut [u16],
+    count: &mut [u16],
+    leader: &mut [u16],
+    slots: &mut [u16],
     constants: &[u64; CONSTANT_COUNT],
 ) -> usize
     requires { ⌜ Keys order (now keys) ⌝ }
-    requires { ⌜ (length (now keys) ≤ length (now weights)) × (length (now keys) ≤ length (now ranking)) ⌝ }
-    requires { ⌜ (length (now keys) ≤ length (now left)) × (length (now keys) ≤ length (now right)) ⌝ }
-    requires { ⌜ (length (now keys) ≤ length (now rank)) × (length (now keys) ≤ length (now count)) × (length (now keys) ≤ length (now leader)) ⌝ }
-    requires { ⌜ (0 < length (now slots)) × (length (now keys) ≤ length (now slots)) × HoldsConstants (now constants) ⌝ }
-    ensures { λ r. ⌜ Prepared order (now (keys .entry)) (now (left .exit)) (now (right .exit)) (now (rank .exit)) (now (count .exit)) (now (leader .exit)) (now (slots .exit)) r ⌝ }
+    requires { ⌜ (0 < many) × (many ≤ mostSlots) × (length (now keys) ≤ many) ⌝ }
+    requires { ⌜ (many ≤ length (now weights)) × (many ≤ length (now ranking)) × (many ≤ length (now left)) × (many ≤ length (now right)) ⌝ }
+    requires { ⌜ (many ≤ length (now rank)) × (many ≤ length (now count)) × (many ≤ length (now leader)) × (many ≤ length (now slots)) × HoldsConstants (now constants) ⌝ }
+    ensures { λ r. ⌜ Prepared order (now (keys .entry)) (now (left .exit)) (now (right .exit)) (now (rank .exit)) (now (count .exit)) (now (leader .exit)) (take many (now (slots .exit))) r ⌝ }
+    ensures { λ _. ⌜ length (take many (now (slots .exit))) ≡ many ⌝ }
 {
     let n = keys.len();
     prioritize(keys, weights, ranking, left, constants);
-    let root = fill(
+    table_slots::place(&weights[..n], &ranking[..n], &mut slots[..many], right);
+    fill(
         &weights[..n],
         order,
         ranking,
@@ -88,7 +91,5 @@ pub fn prepare(
         rank,
         count,
         leader,
-    );
-    table_slots::place(&weights[..n], &ranking[..n], slots);
-    root
+    )
 }

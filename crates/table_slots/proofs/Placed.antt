@@ -1,22 +1,19 @@
 -- The slots after the first positions of the order are placed: the loop's invariant of `place`, its steps and its end.
 -- Assumes an order as `InOrder` says, and no more positions than slots.
-use mathlib.Core.Bool.{true}
-use mathlib.Core.List.{List, [], _∷_, _++_, map, map-append}
+use mathlib.Core.List.{List, [], _∷_, map, map-append}
 use mathlib.Core.Logic.{_≢_}
-use mathlib.Core.Path.{_≡_, refl, sym, ap, ap₂, _∙_, subst}
-use Prim.Native.Nat.{ℕ, zero, suc, _+_, _<_, _≤_}
-use native.Mathlib.Numerals.{add-one}
+use mathlib.Core.Path.{_≡_, refl, sym, ap, _∙_, subst}
+use Prim.Native.Nat.{ℕ, suc, _<_, _≤_}
 use native.Mathlib.Omega.{arith}
-use lib.ListN.{length, getD, take, set, replicate, length-set, length-map, length-replicate, length-take}
+use lib.ListN.{length, getD, take, set, replicate, length-set, length-map, length-replicate}
 use lib.Seq.{take-suc, take-length, length-take-le}
-use Rattle.lists.specs.Lists.{All}
 use Rattle.lists.proofs.Keep.{all-always, all-mapped, all-at}
 use Rattle.treap.specs.Slots.{firstEmpty, placeAll, slotsOf}
 use Rattle.priority.specs.Priority.{homeOf}
 use Rattle.priority.proofs.Bounds.{homeOf-below}
 use Rattle.treap_columns.specs.Positions.{positions, weightAt, InOrder}
 use Rattle.treap_columns.proofs.Ordering.{order-is-sorted}
-use Rattle.table_slots.proofs.Placing.{empties, first-empty-is, empties-replicate, placeAll-append, placeAll-length, placeAll-empties}
+use Rattle.table_slots.proofs.Placing.{empties, first-empty-is, empties-replicate, placeAll-append, placeAll-empties}
 
 -- The home of a position.
 abbrev pub homeAt : List ℕ → ℕ → ℕ → ℕ
@@ -35,10 +32,10 @@ module _ (ws order : List ℕ) (many : ℕ) where
   placed-start = record { upto = omega arith; size = length-replicate many 0; holds = refl }
 
   module _ (sorted : InOrder ws order) (some : 0 < many) (room : length ws ≤ many) (slots : List ℕ) (j : ℕ) (state : Placed slots j) (more : j < length order) where
-    pub index-below : getD order j 0 < length ws
+    index-below : getD order j 0 < length ws
     index-below = all-at (λ i. i < length ws) order j 0 (sorted .indices) more
 
-    pub has-room : firstEmpty slots (homeAt ws many (suc (getD order j 0))) < length slots
+    has-room : firstEmpty slots (homeAt ws many (suc (getD order j 0))) < length slots
     has-room =
         let many-placed : length (map suc (take j order)) ≡ j = length-map (take j order) suc ∙ length-take-le j order (state .upto) in
         let used =
@@ -50,7 +47,7 @@ module _ (ws order : List ℕ) (many : ℕ) where
         let left : 0 < empties slots = omega (arith, used, many-placed, empties-replicate many, sorted .many, ap empties (state .holds)) in
         first-empty-is slots (homeAt ws many (suc (getD order j 0))) (omega (arith, homeOf-below (weightAt ws (suc (getD order j 0))) some, state .size)) left .0
 
-    pub placed-next : Placed (set slots (firstEmpty slots (homeAt ws many (suc (getD order j 0)))) (suc (getD order j 0))) (suc j)
+    placed-next : Placed (set slots (firstEmpty slots (homeAt ws many (suc (getD order j 0)))) (suc (getD order j 0))) (suc j)
     placed-next =
         let i = getD order j 0 in
         let at = firstEmpty slots (homeAt ws many (suc i)) in
@@ -62,6 +59,20 @@ module _ (ws order : List ℕ) (many : ℕ) where
               ∙ sym (placeAll-append (homeAt ws many) (replicate many 0) (map suc (take j order)) (suc i ∷ []))
               ∙ ap (placeAll (homeAt ws many) (replicate many 0)) (sym (ap (map suc) (take-suc order j 0 more) ∙ map-append suc (take j order) (i ∷ [])));
         }
+
+  -- one turn: the index is one of the weights', a slot is free for it, and it is placed
+  pub record Turn (slots : List ℕ) (j : ℕ) : Type 0 where
+    pub listed : getD order j 0 < length ws
+    pub free : firstEmpty slots (homeAt ws many (suc (getD order j 0))) < length slots
+    pub next : Placed (set slots (firstEmpty slots (homeAt ws many (suc (getD order j 0)))) (suc (getD order j 0))) (suc j)
+
+  pub turn : InOrder ws order → 0 < many → length ws ≤ many → (slots : List ℕ) (j : ℕ) → Placed slots j → j < length order → Turn slots j
+  turn sorted some room slots j state more =
+      record {
+        listed = index-below sorted some room slots j state more;
+        free = has-room sorted some room slots j state more;
+        next = placed-next sorted some room slots j state more;
+      }
 
   -- all are placed
   pub placed-end : InOrder ws order → (slots : List ℕ) (j : ℕ) → Placed slots j → length order ≤ j → slots ≡ slotsOf (weightAt ws) (homeAt ws many) many (positions (length ws))

@@ -1,10 +1,10 @@
 -- Probing step by step: slots in turn from home on, slot 0 following the last. Assumes nothing.
-use mathlib.Core.Bool.{Bool, true, false, cond}
+use mathlib.Core.Bool.{Bool, true}
 use mathlib.Core.List.{List, [], _∷_, _++_}
 use mathlib.Core.Logic.{_≢_}
-use mathlib.Core.Path.{_≡_, refl, sym, ap, ap₂, _∙_, subst}
+use mathlib.Core.Path.{_≡_, refl, sym, ap, _∙_}
 use Prim.Native.Nat.{ℕ, zero, suc, _+_, _-_, _<_, _≤_}
-use native.Mathlib.Nat.{zero-add, suc-add}
+use native.Mathlib.Nat.{suc-add}
 use native.Mathlib.Omega.{arith}
 use lib.Dec.{eqb}
 use lib.ListN.{length, getD}
@@ -12,10 +12,7 @@ use borrow.Author.Tests.{eq-eqb, ne-eqb, eqb-true, eqb-false}
 use Rattle.lists.specs.Lists.{first, upFrom}
 use Rattle.lists.proofs.Tests.{by-test}
 use Rattle.treap.specs.Slots.{probes, firstEmpty}
-
--- The slot after a slot, of so many.
-abbrev pub after : ℕ → ℕ → ℕ
-after many at = cond (eqb (suc at) many) 0 (suc at)
+pub use Rattle.table_slots.specs.Skips.{after}
 
 -- So many slots in turn.
 abbrev pub inTurn : ℕ → ℕ → ℕ → List ℕ
@@ -72,17 +69,6 @@ module _ (many : ℕ) (f : ℕ → Bool) where
   pub search-finds : (at left : ℕ) → 0 < left → f at ≡ true → first many f (inTurn many at left) ≡ at
   search-finds at zero l e = absurd (omega arith)
   search-finds at (suc left) l e = rw e
-
-  pub search-goes-on : (at left : ℕ) → 0 < left → f at ≡ false
-      → first many f (inTurn many at left) ≡ first many f (inTurn many (after many at) (left - 1))
-  search-goes-on at zero l e = absurd (omega arith)
-  search-goes-on at (suc left) l e =
-      let back : suc left - 1 ≡ left = omega arith in
-      rw e (ap (λ (n : ℕ). first many f (inTurn many (after many at) n)) (sym back))
-
-  pub search-ends : (at left : ℕ) → left ≤ 0 → first many f (inTurn many at left) ≡ many
-  search-ends at zero h = refl
-  search-ends at (suc left) h = absurd (omega arith)
 
 -- ---- the search for the first empty slot
 abbrev pub empty : List ℕ → ℕ → Bool

@@ -3,12 +3,12 @@ ghost use mathlib.Core.Path.{_≡_};
 ghost use mathlib.Core.List.{_++_};
 ghost use Prim.Native.Nat.{_≤_, _<_};
 ghost use lib.ListN.{length, take, drop};
-ghost use Rattle.treap_columns.specs.Columns.{rankColumn, leaderColumn, Ready};
+ghost use Rattle.treap_columns.specs.Columns.{rankColumn, leaderColumn, mostPositions, Ready};
 ghost use Rattle.treap_leaders.specs.Steps.{handedDown};
 
 // Write the leader of the position `child`: its parent, given by its index, if that has the higher rank, else the parent's leader.
-fn hand_down(parent: usize, child: u64, rank: &[u64], leader: &mut [u64])
-    requires { ⌜ (parent < length (now rank)) × (parent < length (now leader)) ⌝ }
+fn hand_down(parent: usize, child: u16, rank: &[u16], leader: &mut [u16])
+    requires { ⌜ (parent < length (now rank)) × (parent < length (now leader)) × (parent < mostPositions) ⌝ }
     requires { ⌜ (child ≤ length (now rank)) × (child ≤ length (now leader)) ⌝ }
     ensures { λ _. ⌜ now (leader .exit) ≡ handedDown parent child (now (rank .entry)) (now (leader .entry)) ⌝ }
 {
@@ -17,7 +17,7 @@ fn hand_down(parent: usize, child: u64, rank: &[u64], leader: &mut [u64])
     }
     let index = (child - 1) as usize;
     if rank[parent] > rank[index] {
-        leader[index] = parent as u64 + 1;
+        leader[index] = parent as u16 + 1;
     } else {
         leader[index] = leader[parent];
     }
@@ -29,11 +29,11 @@ pub fn leaders(
     weights: &[u64],
     alpha: u64,
     n: usize,
-    order: &[u64],
-    left: &[u64],
-    right: &[u64],
-    rank: &[u64],
-    leader: &mut [u64],
+    order: &[u16],
+    left: &[u16],
+    right: &[u16],
+    rank: &[u16],
+    leader: &mut [u16],
 )
     requires { ⌜ Ready (now weights) alpha n (now order) (now left) (now right) ⌝ }
     requires { ⌜ (n ≤ length (now rank)) × (n ≤ length (now leader)) ⌝ }

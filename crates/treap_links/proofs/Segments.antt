@@ -1,21 +1,19 @@
 -- The positions between two indices: ends, splits and tops. Assumes nothing.
-use mathlib.Core.Bool.{Bool, true, false, cond}
+use mathlib.Core.Bool.{true}
 use mathlib.Core.List.{List, [], _∷_, _++_}
-use mathlib.Core.Path.{_≡_, refl, sym, ap, ap₂, _∙_, subst}
-use Prim.Native.Nat.{ℕ, zero, suc, _+_, _-_, _<_, _≤_}
-use native.Mathlib.Numerals.{add-one}
+use mathlib.Core.Path.{_≡_, ap, _∙_}
+use Prim.Native.Nat.{ℕ, suc, _+_, _-_, _<_, _≤_}
 use native.Mathlib.Omega.{arith}
 use lib.Dec.{ltb}
-use lib.ListN.{length, getD}
-use borrow.Author.Tests.{lt-ltb, le-ltb}
+use lib.ListN.{length}
+use borrow.Author.Tests.{ltb-true, ltb-false}
 use Rattle.lists.specs.Lists.{member, upFrom, All, Rising}
+use Rattle.lists.proofs.Tests.{by-test}
 use Rattle.lists.proofs.Keep.{all-map}
 use Rattle.lists.proofs.Membership.{all-member}
-use Rattle.lists.proofs.UpFrom.{upFrom-length, upFrom-within, upFrom-rising, upFrom-append, upFrom-end}
+use Rattle.lists.proofs.UpFrom.{upFrom-length, upFrom-within, upFrom-rising, upFrom-append}
 use Rattle.treap.specs.Treap.{top}
 use Rattle.treap_structure.proofs.Shape.{top-member}
-use Rattle.treap_structure.proofs.Split.{top-end}
-use Rattle.treap_columns.specs.Positions.{weightAt}
 use Rattle.treap_links.specs.Links.{between}
 
 pub between-none : (lo hi : ℕ) → hi ≤ lo → between lo hi ≡ []
@@ -37,12 +35,6 @@ pub between-within : (lo hi : ℕ) → lo ≤ hi → All (λ x. (lo < x) × (x �
 between-within lo hi h =
     all-map (λ x. (suc lo ≤ x) × (x < suc lo + (hi - lo))) (λ x. (lo < x) × (x ≤ hi)) (λ x q. omega arith) (between lo hi) (upFrom-within (suc lo) (hi - lo))
 
-pub between-end : (lo i : ℕ) → lo ≤ i → between lo (suc i) ≡ between lo i ++ (suc i ∷ [])
-between-end lo i h =
-    let more : suc i - lo ≡ suc (i - lo) = omega arith in
-    let last : suc lo + (i - lo) ≡ suc i = omega arith in
-    ap (upFrom (suc lo)) more ∙ upFrom-end (suc lo) (i - lo) ∙ ap (λ (n : ℕ). between lo i ++ (n ∷ [])) last
-
 pub between-split : (lo i hi : ℕ) → lo ≤ i → i < hi → between lo hi ≡ between lo i ++ suc i ∷ between (suc i) hi
 between-split lo i hi h k =
     let parts : hi - lo ≡ (i - lo) + suc (hi - suc i) = omega arith in
@@ -58,27 +50,9 @@ top-between p lo hi h =
     go [] e = absurd (omega arith)
     go (x ∷ xs) e = top-member p x xs
 
-pub top-of-one : (p : ℕ → ℕ) (lo : ℕ) → top p (between lo (suc lo)) ≡ suc lo
-top-of-one p lo =
-    let b = top-between p lo (suc lo) (omega arith) in
-    omega arith
-
--- one position more
-pub top-more : (p : ℕ → ℕ) (lo i : ℕ) → lo < i → top p (between lo (suc i)) ≡ cond (ltb (p (top p (between lo i))) (p (suc i))) (suc i) (top p (between lo i))
-top-more p lo i h =
-    ap (top p) (between-end lo i (omega arith))
-    ∙ top-end p (between lo i) (suc i) (omega (arith, between-length lo i))
-    (all-map (λ x. (lo < x) × (x ≤ i)) (λ x. x < suc i) (λ x q. omega arith) (between lo i) (between-within lo i (omega arith)))
-
--- the search for the top goes on by one position: to it if its weight is greater, else it stays
-pub top-moves : (ws : List ℕ) (lo i at : ℕ) → lo < i → suc at ≡ top (weightAt ws) (between lo i) → getD ws at 0 < getD ws i 0
-    → suc i ≡ top (weightAt ws) (between lo (i + 1))
-top-moves ws lo i at h e l =
-    sym (ap (λ (n : ℕ). top (weightAt ws) (between lo n)) (add-one i) ∙ top-more (weightAt ws) lo i h
-    ∙ ap (λ (m : ℕ). cond (ltb (weightAt ws m) (getD ws i 0)) (suc i) m) (sym e) ∙ ap (λ b. cond b (suc i) (suc at)) (lt-ltb (getD ws at 0) (getD ws i 0) l))
-
-pub top-stays : (ws : List ℕ) (lo i at : ℕ) → lo < i → suc at ≡ top (weightAt ws) (between lo i) → getD ws i 0 ≤ getD ws at 0
-    → suc at ≡ top (weightAt ws) (between lo (i + 1))
-top-stays ws lo i at h e l =
-    sym (ap (λ (n : ℕ). top (weightAt ws) (between lo n)) (add-one i) ∙ top-more (weightAt ws) lo i h
-    ∙ ap (λ (m : ℕ). cond (ltb (weightAt ws m) (getD ws i 0)) (suc i) m) (sym e) ∙ ap (λ b. cond b (suc i) (suc at)) (le-ltb (getD ws at 0) (getD ws i 0) l))
+-- the top of any part is no position after it
+pub top-upto : (p : ℕ → ℕ) (lo hi r : ℕ) → r ≡ top p (between lo hi) → r ≤ hi
+top-upto p lo hi r e =
+    by-test (ltb lo hi)
+    (λ t. omega (arith, top-between p lo hi (ltb-true lo hi t)))
+    (λ t. omega (arith, top-none p lo hi (ltb-false lo hi t)))

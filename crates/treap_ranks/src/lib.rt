@@ -9,18 +9,18 @@ ghost use Rattle.treap_ranks.specs.Steps.{entryAt, standingOf, Small, ra
 
 // The rank and the count of a position; zeros for none.
 struct Standing {
-    rank: u64,
-    count: u64,
+    rank: u16,
+    count: u16,
 }
 
-fn larger(a: u64, b: u64) -> u64
+fn larger(a: u16, b: u16) -> u16
     ensures { λ r. ⌜ r ≡ max a b ⌝ }
 {
     if a < b { b } else { a }
 }
 
 // The standing that the columns have for a position.
-fn standing_at(position: u64, rank: &[u64], count: &[u64]) -> Standing
+fn standing_at(position: u16, rank: &[u16], count: &[u16]) -> Standing
     requires { ⌜ (position ≤ length (now rank)) × (position ≤ length (now count)) ⌝ }
     ensures { λ r. ⌜ (r .rank ≡ entryAt (now (rank .entry)) position) × (r .count ≡ entryAt (now (count .entry)) position) ⌝ }
 {
@@ -35,7 +35,7 @@ fn standing_at(position: u64, rank: &[u64], count: &[u64]) -> Standing
 }
 
 // The count of a child if it has the given rank, else nothing.
-fn count_at(rank: u64, child: Standing) -> u64
+fn count_at(rank: u16, child: Standing) -> u16
     ensures { λ r. ⌜ r ≡ countAt rank (standingOf child) ⌝ }
 {
     if child.rank == rank { child.count } else { 0 }
@@ -48,7 +48,7 @@ fn raise(alpha: u64, left: Standing, right: Standing) -> Standing
 {
     let rank = larger(left.rank, right.rank);
     let count = 1 + count_at(rank, left) + count_at(rank, right);
-    if count >= alpha {
+    if count as u64 >= alpha {
         Standing {
             rank: rank + 1,
             count: 1,
@@ -82,11 +82,11 @@ pub fn ranks(
     weights: &[u64],
     alpha: u64,
     n: usize,
-    order: &[u64],
-    left: &[u64],
-    right: &[u64],
-    rank: &mut [u64],
-    count: &mut [u64],
+    order: &[u16],
+    left: &[u16],
+    right: &[u16],
+    rank: &mut [u16],
+    count: &mut [u16],
 )
     requires { ⌜ Ready (now weights) alpha n (now order) (now left) (now right) ⌝ }
     requires { ⌜ (n ≤ length (now rank)) × (n ≤ length (now count)) ⌝ }

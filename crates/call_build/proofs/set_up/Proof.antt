@@ -7,7 +7,7 @@ use lib.ListN.{length, length-replicate}
 use borrow.Author.Tests.{not-true, not-false}
 use Rattle.table.specs.Contents.{newOrder}
 use Rattle.table_limits.specs.Lengths.{slotsFor}
-use Rattle.table_limits.proofs.Lengths.{SlotsOf, slots-for-some}
+use Rattle.table_limits.proofs.Lengths.{slots-for-some}
 use Rattle.call_build.proofs.SettingUp.{refused-length, refused-order, accepted}
 use borrow.Author.Needs.{needs}
 use Rattle.call_build.proofs.set_up.Statement.{statement}
@@ -16,7 +16,7 @@ use Rattle.call_build.proofs.set_up.Reads as reads
 use Rattle.call_build.proofs.set_up.Lts as lts
 use Rattle.table_limits.proofs.is_new_order.Reads as is-new-order-reads
 use Rattle.table_limits.proofs.slots_for.Reads as slots-for-reads
-use Rattle.table_slots.proofs.clear.Reads as clear-reads
+use Rattle.call_build.proofs.clear.Reads as clear-reads
 
 -- past the first test the words have a right length, past the second the order is right
 right-length : (p : tie.Else1) → slotsFor (length (p .before .before .before .args .table .now)) ≢ 0

@@ -10,10 +10,10 @@ use Rattle.call_changes.proofs.know.Statement.{statement}
 use Rattle.call_changes.proofs.know.Tie as tie
 use Rattle.call_changes.proofs.know.Reads as reads
 use Rattle.call_changes.proofs.know.Lts as lts
-use Rattle.table_judge.proofs.examine_sized.Reads as examine-sized-reads
+use Rattle.table_examine.proofs.examine.Reads as examine-reads
 
-examine-sized-requires : tie.Need-examine-sized-requires
-examine-sized-requires c κs = search needs
+examine-requires : tie.Need-examine-requires
+examine-requires c κs = search needs
 
 enum-told : tie.Need-enum-told
 enum-told c = search needs
@@ -29,11 +29,11 @@ returns c =
     let q = c .before .before .before .before in
     let start = q .before .before .before .before in
     let args = start .args in
-    let keys = q .examine-sized .last .1 .1 .0 in
+    let keys = q .examine .last .1 .1 .0 in
     let n = c .enum-told .given .0 .0 in
     let found : Examined (args .many) (args .table .now) (args .keys .now) keys n =
-    examined (args .many) (args .table .now) (args .keys .now) keys n (q .examine-sized .result) (q .examine-sized .ensures .0) (c .enum-told .given .1)
-    (q .examine-sized .ensures .1) (start .pre .3)
+    examined (args .many) (args .table .now) (args .keys .now) keys n (q .examine .result) (q .examine .ensures .0) (c .enum-told .given .1)
+    (q .examine .ensures .1) (start .pre .3)
     in
     (sym (found .sound), λ e. known-examined (args .many) (args .table .now) (args .keys .now) keys n (start .pre .0) (start .pre .1) (start .pre .2) found)
 
@@ -44,14 +44,14 @@ returns-2 : tie.Need-returns-2
 returns-2 c =
     let q = c .before .before .before .before in
     let args = q .before .before .before .before .args in
-    let unsound = told-false (args .many) (args .table .now) (sym (q .examine-sized .ensures .0) ∙ c .enum-told2 .given .1) in
+    let unsound = told-false (args .many) (args .table .now) (sym (q .examine .ensures .0) ∙ c .enum-told2 .given .1) in
     (sym unsound, λ e. absurd (true-or-false (soundWith (args .many) (args .table .now)) (unsound ∙ e) unsound))
 
 pub know-spec : {M : Type 1} → statement M
 know-spec =
     tie.close
     (tie.spec
-    examine-sized-requires
+    examine-requires
     enum-told
     enum-told-2
     same-length

@@ -9,7 +9,7 @@ use Rattle.call_delete.proofs.delete.Statement.{statement}
 use Rattle.call_delete.proofs.delete.Tie as tie
 use Rattle.call_delete.proofs.delete.Reads as reads
 use Rattle.call_delete.proofs.delete.Lts as lts
-use Rattle.call_delete.proofs.delete_sized.Reads as delete-sized-reads
+use Rattle.call_delete.proofs.delete_with_room.Reads as delete-with-room-reads
 use Rattle.table_limits.proofs.slots_for.Reads as slots-for-reads
 
 slots-for-requires : tie.Need-slots-for-requires
@@ -26,8 +26,8 @@ returns-2 c =
     let here = c .before .before .slots-for .ensures in
     refused-zero (args .table .now) (args .key) (λ e. c .before .if1 .left (here ∙ e)) (c .if2 .taken)
 
-delete-sized-requires : tie.Need-delete-sized-requires
-delete-sized-requires c κs =
+delete-with-room-requires : tie.Need-delete-with-room-requires
+delete-with-room-requires c κs =
     let words = c .before .before .before .before .before .args .table .now in
     let here = c .before .before .before .slots-for .ensures in
     let right = slots-for-some (length words) (λ e. c .before .before .if1 .left (here ∙ e)) in
@@ -42,4 +42,4 @@ returns-3 c = search needs
 
 pub delete-spec : {M : Type 1} → statement M
 delete-spec =
-    tie.close (tie.spec slots-for-requires returns returns-2 delete-sized-requires same-length returns-3)
+    tie.close (tie.spec slots-for-requires returns returns-2 delete-with-room-requires same-length returns-3)

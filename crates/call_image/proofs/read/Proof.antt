@@ -9,7 +9,7 @@ use Rattle.call_image.proofs.read.Statement.{statement}
 use Rattle.call_image.proofs.read.Tie as tie
 use Rattle.call_image.proofs.read.Reads as reads
 use Rattle.call_image.proofs.read.Lts as lts
-use Rattle.call_image.proofs.read_sized.Reads as read-sized-reads
+use Rattle.call_image.proofs.read_with_room.Reads as read-with-room-reads
 use Rattle.table_limits.proofs.slots_for.Reads as slots-for-reads
 
 slots-for-requires : tie.Need-slots-for-requires
@@ -20,8 +20,8 @@ returns c =
     let args = c .before .before .before .before .args in
     refused-length (args .table .now) (args .image .now) (sym (c .before .slots-for .ensures) ∙ c .if1 .taken)
 
-read-sized-requires : tie.Need-read-sized-requires
-read-sized-requires c κs =
+read-with-room-requires : tie.Need-read-with-room-requires
+read-with-room-requires c κs =
     let words = c .before .before .before .before .before .args .table .now in
     let here = c .before .before .slots-for .ensures in
     let right = slots-for-some (length words) (λ e. c .before .if1 .left (here ∙ e)) in
@@ -34,4 +34,4 @@ returns-2 : tie.Need-returns-2
 returns-2 c = search needs
 
 pub read-spec : {M : Type 1} → statement M
-read-spec = tie.close (tie.spec slots-for-requires returns read-sized-requires same-length returns-2)
+read-spec = tie.close (tie.spec slots-for-requires returns read-with-room-requires same-length returns-2)

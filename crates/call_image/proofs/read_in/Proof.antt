@@ -12,8 +12,7 @@ use Rattle.table.specs.Contents.{Valid}
 use Rattle.table.specs.Layout.{mostSlots}
 use Rattle.image.specs.Image.{readImage, isImage}
 use Rattle.image.specs.Layout.{IsByte}
-use Rattle.image.proofs.Judging.{is-image-valid, is-image-exactly}
-use Rattle.image.proofs.Lengths.{image-length}
+use Rattle.image.proofs.Judging.{is-image-valid}
 use Rattle.image_recognize.proofs.Answers.{told-image, told-other, told-number, image-keys, image-header}
 use Rattle.call_image.proofs.Reading.{refused-bytes, refused-many, accepted}
 use borrow.Author.Needs.{needs}
@@ -60,8 +59,7 @@ taken p =
 inside : (p : tie.After-found) → size p ≤ length (listed p)
 inside p =
     let q = read-at p in
-    let bytes-long = ap length (is-image-exactly (bytes q) (one p)) in
-    let room = begun q .pre .3 (length (readImage (bytes q) .keys)) (valid p .keys-fit) (omega (arith, bytes-long, image-length (readImage (bytes q)) (valid p))) in
+    let room : length (readImage (bytes q) .keys) ≤ length (begun q .args .keys .now) = omega (arith, valid p .keys-fit, begun q .pre .3) in
     omega (
       arith,
       number p,

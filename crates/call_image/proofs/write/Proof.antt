@@ -9,7 +9,7 @@ use Rattle.call_image.proofs.write.Statement.{statement}
 use Rattle.call_image.proofs.write.Tie as tie
 use Rattle.call_image.proofs.write.Reads as reads
 use Rattle.call_image.proofs.write.Lts as lts
-use Rattle.call_image.proofs.write_sized.Reads as write-sized-reads
+use Rattle.call_image.proofs.write_with_room.Reads as write-with-room-reads
 use Rattle.table_limits.proofs.slots_for.Reads as slots-for-reads
 
 slots-for-requires : tie.Need-slots-for-requires
@@ -20,8 +20,8 @@ returns c =
     let args = c .before .before .before .before .args in
     refused-length (args .table .now) (args .output .now) (sym (c .before .slots-for .ensures) ∙ c .if1 .taken)
 
-write-sized-requires : tie.Need-write-sized-requires
-write-sized-requires c κs =
+write-with-room-requires : tie.Need-write-with-room-requires
+write-with-room-requires c κs =
     let words = c .before .before .before .before .before .args .table .now in
     let here = c .before .before .slots-for .ensures in
     let right = slots-for-some (length words) (λ e. c .before .if1 .left (here ∙ e)) in
@@ -34,4 +34,4 @@ returns-2 : tie.Need-returns-2
 returns-2 c = search needs
 
 pub write-spec : {M : Type 1} → statement M
-write-spec = tie.close (tie.spec slots-for-requires returns write-sized-requires same-length returns-2)
+write-spec = tie.close (tie.spec slots-for-requires returns write-with-room-requires same-length returns-2)

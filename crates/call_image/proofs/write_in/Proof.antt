@@ -13,27 +13,27 @@ use Rattle.call_image.proofs.write_in.Statement.{statement}
 use Rattle.call_image.proofs.write_in.Tie as tie
 use Rattle.call_image.proofs.write_in.Reads as reads
 use Rattle.call_image.proofs.write_in.Lts as lts
-use Rattle.table_judge.proofs.examine_sized.Reads as examine-sized-reads
+use Rattle.table_examine.proofs.examine.Reads as examine-reads
 use Rattle.image_write.proofs.write.Reads as write-reads
 
-abbrev begun : tie.After-examine-sized → tie.Start
+abbrev begun : tie.After-examine → tie.Start
 begun q = q .before .before .before .before .before .before
 
-abbrev judged-at : tie.After-found → tie.After-examine-sized
+abbrev judged-at : tie.After-found → tie.After-examine
 judged-at p = p .before .before .before .before
 
 abbrev size : tie.After-found → ℕ
 size p = p .found .given .0 .0
 
 abbrev listed : tie.After-found → List ℕ
-listed p = judged-at p .examine-sized .last .1 .1 .0
+listed p = judged-at p .examine .last .1 .1 .0
 
 found : (p : tie.After-found) → Examined (begun (judged-at p) .args .many) (begun (judged-at p) .args .table .now) (begun (judged-at p) .args .keys .now) (listed p) (size p)
 found p =
     let q = judged-at p in
     let start = begun q in
-    examined (start .args .many) (start .args .table .now) (start .args .keys .now) (listed p) (size p) (q .examine-sized .result) (q .examine-sized .ensures .0)
-    (p .found .given .1) (q .examine-sized .ensures .1) (start .pre .3)
+    examined (start .args .many) (start .args .table .now) (start .args .keys .now) (listed p) (size p) (q .examine .result) (q .examine .ensures .0)
+    (p .found .given .1) (q .examine .ensures .1) (start .pre .3)
 
 inside : (p : tie.After-found) → size p ≤ length (listed p)
 inside p = omega (arith, found p .most, found p .long, begun (judged-at p) .pre .3)
@@ -41,8 +41,8 @@ inside p = omega (arith, found p .most, found p .long, begun (judged-at p) .pre 
 shared-slice-read-order : tie.Need-shared-slice-read-order
 shared-slice-read-order c = search needs
 
-examine-sized-requires : tie.Need-examine-sized-requires
-examine-sized-requires c κs = search needs
+examine-requires : tie.Need-examine-requires
+examine-requires c κs = search needs
 
 enum-known-found : tie.Need-enum-known-found
 enum-known-found c = search needs
@@ -58,7 +58,7 @@ returns c =
     let q = c .before .before .before .before in
     let start = begun q in
     refused-table (start .args .table .now) (start .args .output .now) (start .args .many) (start .pre .0) (start .pre .1) (start .pre .2)
-    (told-false (start .args .many) (start .args .table .now) (sym (q .examine-sized .ensures .0) ∙ c .enum-told .given .1))
+    (told-false (start .args .many) (start .args .table .now) (sym (q .examine .ensures .0) ∙ c .enum-told .given .1))
 
 slice-reshare-prefix-write : tie.Need-slice-reshare-prefix-write
 slice-reshare-prefix-write c = inside (c .before)
@@ -105,7 +105,7 @@ write-in-spec =
     tie.close
     (tie.spec
     shared-slice-read-order
-    examine-sized-requires
+    examine-requires
     enum-known-found
     enum-told
     same-length

@@ -9,7 +9,7 @@ use Rattle.call_insert.proofs.insert.Statement.{statement}
 use Rattle.call_insert.proofs.insert.Tie as tie
 use Rattle.call_insert.proofs.insert.Reads as reads
 use Rattle.call_insert.proofs.insert.Lts as lts
-use Rattle.call_insert.proofs.insert_sized.Reads as insert-sized-reads
+use Rattle.call_insert.proofs.insert_with_room.Reads as insert-with-room-reads
 use Rattle.table_limits.proofs.slots_for.Reads as slots-for-reads
 
 slots-for-requires : tie.Need-slots-for-requires
@@ -26,8 +26,8 @@ returns-2 c =
     let here = c .before .before .slots-for .ensures in
     refused-zero (args .table .now) (args .key) (λ e. c .before .if1 .left (here ∙ e)) (c .if2 .taken)
 
-insert-sized-requires : tie.Need-insert-sized-requires
-insert-sized-requires c κs =
+insert-with-room-requires : tie.Need-insert-with-room-requires
+insert-with-room-requires c κs =
     let words = c .before .before .before .before .before .args .table .now in
     let here = c .before .before .before .slots-for .ensures in
     let right = slots-for-some (length words) (λ e. c .before .before .if1 .left (here ∙ e)) in
@@ -42,4 +42,4 @@ returns-3 c = search needs
 
 pub insert-spec : {M : Type 1} → statement M
 insert-spec =
-    tie.close (tie.spec slots-for-requires returns returns-2 insert-sized-requires same-length returns-3)
+    tie.close (tie.spec slots-for-requires returns returns-2 insert-with-room-requires same-length returns-3)

@@ -7,7 +7,7 @@ use Rattle.call_lookup.proofs.look_up.Statement.{statement}
 use Rattle.call_lookup.proofs.look_up.Tie as tie
 use Rattle.call_lookup.proofs.look_up.Reads as reads
 use Rattle.call_lookup.proofs.look_up.Lts as lts
-use Rattle.call_lookup.proofs.look_up_sized.Reads as look-up-sized-reads
+use Rattle.call_lookup.proofs.look_up_with_constants.Reads as look-up-with-constants-reads
 use Rattle.table_limits.proofs.slots_for.Reads as slots-for-reads
 
 slots-for-requires : tie.Need-slots-for-requires
@@ -24,8 +24,8 @@ returns-2 c =
     let here = c .before .before .slots-for .ensures in
     refused-zero (args .table .now) (args .key) (λ e. c .before .if1 .left (here ∙ e)) (c .if2 .taken)
 
-look-up-sized-requires : tie.Need-look-up-sized-requires
-look-up-sized-requires c κs =
+look-up-with-constants-requires : tie.Need-look-up-with-constants-requires
+look-up-with-constants-requires c κs =
     let here = c .before .before .slots-for .ensures in
     let none = c .before .if1 .left in
     let zero = c .if2 .left in
@@ -41,5 +41,5 @@ look-up-spec =
     slots-for-requires
     returns
     returns-2
-    look-up-sized-requires
+    look-up-with-constants-requires
     returns-3)

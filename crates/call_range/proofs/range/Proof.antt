@@ -9,7 +9,7 @@ use Rattle.call_range.proofs.range.Statement.{statement}
 use Rattle.call_range.proofs.range.Tie as tie
 use Rattle.call_range.proofs.range.Reads as reads
 use Rattle.call_range.proofs.range.Lts as lts
-use Rattle.call_range.proofs.range_sized.Reads as range-sized-reads
+use Rattle.call_range.proofs.range_with_room.Reads as range-with-room-reads
 use Rattle.table_limits.proofs.slots_for.Reads as slots-for-reads
 
 slots-for-requires : tie.Need-slots-for-requires
@@ -26,8 +26,8 @@ returns-2 c =
     let slots = c .before .before .slots-for in
     refused-order (args .table .now) (args .low) (args .high) (args .output .now) (λ e. c .before .if1 .left (slots .ensures ∙ e)) (c .if2 .taken)
 
-range-sized-requires : tie.Need-range-sized-requires
-range-sized-requires c κs =
+range-with-room-requires : tie.Need-range-with-room-requires
+range-with-room-requires c κs =
     let words = c .before .before .before .before .before .before .args .table .now in
     let here = c .before .before .before .slots-for .ensures in
     let right = slots-for-some (length words) (λ e. c .before .before .if1 .left (here ∙ e)) in
@@ -46,6 +46,6 @@ range-spec =
     slots-for-requires
     returns
     returns-2
-    range-sized-requires
+    range-with-room-requires
     same-length
     returns-3)

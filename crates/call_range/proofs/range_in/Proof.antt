@@ -1,6 +1,6 @@
 -- `call_range::range_in` meets its contract. Assumes nothing.
 use mathlib.Core.List.{List}
-use mathlib.Core.Path.{_≡_, sym, ap, _∙_}
+use mathlib.Core.Path.{sym, ap, _∙_}
 use Prim.Native.Nat.{ℕ, _≤_}
 use native.Mathlib.Omega.{arith}
 use lib.ListN.{length, take}
@@ -13,35 +13,35 @@ use Rattle.call_range.proofs.range_in.Statement.{statement}
 use Rattle.call_range.proofs.range_in.Tie as tie
 use Rattle.call_range.proofs.range_in.Reads as reads
 use Rattle.call_range.proofs.range_in.Lts as lts
-use Rattle.table_judge.proofs.examine_sized.Reads as examine-sized-reads
+use Rattle.table_examine.proofs.examine.Reads as examine-reads
 use Rattle.intervals.proofs.copy_within.Reads as copy-within-reads
 use Rattle.intervals.proofs.count_within.Reads as count-within-reads
 
 -- ---- where the table is sound
-abbrev judged-at : tie.After-found → tie.After-examine-sized
+abbrev judged-at : tie.After-found → tie.After-examine
 judged-at p = p .before .before .before .before
 
-abbrev begun : tie.After-examine-sized → tie.Start
+abbrev begun : tie.After-examine → tie.Start
 begun p = p .before .before .before .before .before
 
 abbrev size : tie.After-found → ℕ
 size p = p .found .given .0 .0
 
 abbrev listed : tie.After-found → List ℕ
-listed p = judged-at p .examine-sized .last .1 .1 .0
+listed p = judged-at p .examine .last .1 .1 .0
 
 found : (p : tie.After-found) → Examined (begun (judged-at p) .args .many) (begun (judged-at p) .args .table .now) (begun (judged-at p) .args .keys .now) (listed p) (size p)
 found p =
     let q = judged-at p in
     let start = begun q in
-    examined (start .args .many) (start .args .table .now) (start .args .keys .now) (listed p) (size p) (q .examine-sized .result) (q .examine-sized .ensures .0)
-    (p .found .given .1) (q .examine-sized .ensures .1) (start .pre .4)
+    examined (start .args .many) (start .args .table .now) (start .args .keys .now) (listed p) (size p) (q .examine .result) (q .examine .ensures .0)
+    (p .found .given .1) (q .examine .ensures .1) (start .pre .4)
 
 fits : (p : tie.After-found) → size p ≤ length (listed p)
 fits p = omega (arith, found p .most, found p .long, begun (judged-at p) .pre .4)
 
-examine-sized-requires : tie.Need-examine-sized-requires
-examine-sized-requires c κs = search needs
+examine-requires : tie.Need-examine-requires
+examine-requires c κs = search needs
 
 enum-known-found : tie.Need-enum-known-found
 enum-known-found c = search needs
@@ -62,7 +62,7 @@ returns c =
     let many = start .args .many in
     let pre = start .pre in
     refused-table words low high output many (pre .0) (pre .1) (pre .2) (pre .3)
-    (told-false many words (sym (c .before .before .before .before .examine-sized .ensures .0) ∙ c .enum-told .given .1))
+    (told-false many words (sym (c .before .before .before .before .examine .ensures .0) ∙ c .enum-told .given .1))
 
 count-within-requires : tie.Need-count-within-requires
 count-within-requires c κs = fits (c .before .before)
@@ -114,7 +114,7 @@ pub range-in-spec : {M : Type 1} → statement M
 range-in-spec =
     tie.close
     (tie.spec
-    examine-sized-requires
+    examine-requires
     enum-known-found
     enum-told
     same-length

@@ -1,10 +1,8 @@
--- `image_equal::same_bytes` meets its contract. The loop's invariant: the bytes passed agree. Assumes nothing.
-use mathlib.Core.Path.{_≡_, refl, sym, ap, _∙_, subst}
-use Prim.Native.Nat.{ℕ, _-_, _≤_}
-use native.Mathlib.Numerals.{add-one}
+-- `image_equal::same_bytes` meets its contract. The loop's invariant: the differences so far are gathered. Assumes nothing.
+use Prim.Native.Nat.{_-_}
 use native.Mathlib.Omega.{arith}
-use lib.ListN.{length, take}
-use Rattle.image_equal.proofs.SameBytes.{lengths-differ, differ-at, agree-more, agree-all}
+use lib.ListN.{length}
+use Rattle.image_equal.proofs.SameBytes.{lengths-differ, Gathered, gathered-start, gathered-next, gathered-all}
 use borrow.Author.Needs.{needs}
 use Rattle.image_equal.proofs.same_bytes.Statement.{statement}
 use Rattle.image_equal.proofs.same_bytes.Tie as tie
@@ -12,25 +10,22 @@ use Rattle.image_equal.proofs.same_bytes.Reads as reads
 use Rattle.image_equal.proofs.same_bytes.Lts as lts
 
 abbrev Inv-loop : tie.InvT-loop
-Inv-loop left right i₀ i-end i = (i ≤ length left) × (take i left ≡ take i right)
+Inv-loop left right gathered₀ i₀ i-end gathered i = Gathered left right gathered i
 
 abbrev μ-loop : tie.MeasureT-loop
-μ-loop left right i₀ i-end i = length left - i
+μ-loop left right gathered₀ i₀ i-end gathered i = length left - i
 
 returns : tie.Need-returns Inv-loop μ-loop
 returns c = let args = c .before .args in lengths-differ (args .left .now) (args .right .now) (c .if1 .taken)
 
 loop-holds : tie.Need-loop-holds Inv-loop μ-loop
-loop-holds c = (omega arith, refl)
+loop-holds c = gathered-start _ _
 
-shared-slice-read-if2 : tie.Need-shared-slice-read-if2 Inv-loop μ-loop
-shared-slice-read-if2 c = search needs
+shared-slice-read-gathered : tie.Need-shared-slice-read-gathered Inv-loop μ-loop
+shared-slice-read-gathered c = search needs
 
-shared-slice-read-if2-2 : tie.Need-shared-slice-read-if2-2 Inv-loop μ-loop
-shared-slice-read-if2-2 c = let p = c .before .before in omega (arith, p .loop-test .taken, p .before .before .if1 .left)
-
-returns-2 : tie.Need-returns-2 Inv-loop μ-loop
-returns-2 c = let p = c .before .before .before .before in let args = p .before .before .args in differ-at (args .left .now) (args .right .now) (p .loop .i) (c .if2 .taken)
+shared-slice-read-gathered-2 : tie.Need-shared-slice-read-gathered-2 Inv-loop μ-loop
+shared-slice-read-gathered-2 c = search needs
 
 add-i : tie.Need-add-i Inv-loop μ-loop
 add-i c = search needs
@@ -40,17 +35,16 @@ loop-less c = search needs
 
 loop-again : tie.Need-loop-again Inv-loop μ-loop
 loop-again c =
-    let turn = c .before .before .before in
+    let turn = c .before .before in
     let p = turn .before in
     let args = p .before .before .args in
-    let next = agree-more (args .left .now) (args .right .now) (p .before .if1 .left) (p .loop .i) (turn .loop-test .taken) (p .loop .inv .1) (c .if2 .left) in
-    (search needs, subst (λ (i : ℕ). take i (args .left .now) ≡ take i (args .right .now)) (sym (add-one (p .loop .i))) next)
+    gathered-next (args .left .now) (args .right .now) (p .before .if1 .left) (p .loop .gathered) (p .loop .i) (p .loop .inv) (turn .loop-test .taken)
 
-returns-3 : tie.Need-returns-3 Inv-loop μ-loop
-returns-3 c =
+returns-2 : tie.Need-returns-2 Inv-loop μ-loop
+returns-2 c =
     let p = c .before in
     let args = p .before .before .args in
-    agree-all (args .left .now) (args .right .now) (p .before .if1 .left) (p .loop .i) (omega (arith, p .loop .inv .0, c .loop-test .left)) (p .loop .inv .1)
+    gathered-all (args .left .now) (args .right .now) (p .before .if1 .left) (p .loop .gathered) (p .loop .i) (p .loop .inv) (omega (arith, c .loop-test .left))
 
 pub same-bytes-spec : {M : Type 1} → statement M
 same-bytes-spec =
@@ -60,10 +54,9 @@ same-bytes-spec =
     μ-loop
     returns
     loop-holds
-    shared-slice-read-if2
-    shared-slice-read-if2-2
-    returns-2
+    shared-slice-read-gathered
+    shared-slice-read-gathered-2
     add-i
     loop-less
     loop-again
-    returns-3)
+    returns-2)

@@ -1,4 +1,5 @@
 -- `image_parts::put_key` meets its contract. Assumes nothing.
+use native.Mathlib.Omega.{arith}
 use mathlib.Core.Path.{ap, _∙_}
 use Rattle.lists.specs.Lists.{overwrite}
 use Rattle.image_parts.proofs.Nodes.{node-is}
@@ -16,6 +17,9 @@ mul-key-at c = search needs
 shared-slice-read-key-at : tie.Need-shared-slice-read-key-at
 shared-slice-read-key-at c = search needs
 
+cast-key-at : tie.Need-cast-key-at
+cast-key-at c = omega (arith, c .shared-slice-known6 .given (c .before .before .before .before .before .before .before .args .i))
+
 key-at-requires : tie.Need-key-at-requires
 key-at-requires c κs =
     let start = c .before .before .before .before .before .before .before in
@@ -26,6 +30,9 @@ mul-key-at-2 c = search needs
 
 shared-slice-read-key-at-2 : tie.Need-shared-slice-read-key-at-2
 shared-slice-read-key-at-2 c = search needs
+
+cast-key-at-2 : tie.Need-cast-key-at-2
+cast-key-at-2 c = omega (arith, c .shared-slice-known7 .given (c .before .before .before .before .before .before .before .before .before .args .i))
 
 key-at-requires-2 : tie.Need-key-at-requires-2
 key-at-requires-2 c κs =
@@ -44,11 +51,17 @@ mul-put-node-2 c = search needs
 shared-slice-read-put-node-2 : tie.Need-shared-slice-read-put-node-2
 shared-slice-read-put-node-2 c = search needs
 
+cast-put-node : tie.Need-cast-put-node
+cast-put-node c = omega (arith, c .shared-slice-known9 .given (c .before .before .before .before .before .before .before .before .before .before .before .before .before .args .i))
+
 mul-put-node-3 : tie.Need-mul-put-node-3
 mul-put-node-3 c = search needs
 
 shared-slice-read-put-node-3 : tie.Need-shared-slice-read-put-node-3
 shared-slice-read-put-node-3 c = search needs
+
+cast-put-node-2 : tie.Need-cast-put-node-2
+cast-put-node-2 c = omega (arith, c .shared-slice-known10 .given (c .before .before .before .before .before .before .before .before .before .before .before .before .before .before .args .i))
 
 put-node-requires : tie.Need-put-node-requires
 put-node-requires c κs = search needs
@@ -67,16 +80,20 @@ put-key-spec =
     (tie.spec
     mul-key-at
     shared-slice-read-key-at
+    cast-key-at
     key-at-requires
     mul-key-at-2
     shared-slice-read-key-at-2
+    cast-key-at-2
     key-at-requires-2
     mul-put-node
     shared-slice-read-put-node
     mul-put-node-2
     shared-slice-read-put-node-2
+    cast-put-node
     mul-put-node-3
     shared-slice-read-put-node-3
+    cast-put-node-2
     put-node-requires
     same-length
     returns)

@@ -34,6 +34,9 @@ mul-put-key c = search needs
 shared-slice-read-put-key : tie.Need-shared-slice-read-put-key Inv-loop μ-loop
 shared-slice-read-put-key c = search needs
 
+cast-put-key : tie.Need-cast-put-key Inv-loop μ-loop
+cast-put-key c = omega (arith, c .shared-slice-known7 .given (c .before .before .loop .j))
+
 sub-put-key : tie.Need-sub-put-key Inv-loop μ-loop
 sub-put-key c = search needs
 
@@ -82,6 +85,7 @@ put-keys-spec =
     loop-holds
     mul-put-key
     shared-slice-read-put-key
+    cast-put-key
     sub-put-key
     mul-put-key-2
     add-put-key

@@ -24,6 +24,9 @@ mul-i c = search needs
 shared-slice-read-i : tie.Need-shared-slice-read-i
 shared-slice-read-i c = search needs
 
+cast-i : tie.Need-cast-i
+cast-i c = omega (arith, c .shared-slice-known8 .given (c .before .before .before .before .before .before .before .before .before .args .low))
+
 level-at-requires : tie.Need-level-at-requires
 level-at-requires c κs =
     let start = c .before .before .before .before .before .before .before .before .before in
@@ -75,6 +78,7 @@ put-part-spec =
     (tie.spec
     mul-i
     shared-slice-read-i
+    cast-i
     level-at-requires
     leader-at-requires
     key-at-requires

@@ -8,9 +8,8 @@ use Rattle.image_recognize.proofs.recognize.Statement.{statement}
 use Rattle.image_recognize.proofs.recognize.Tie as tie
 use Rattle.image_recognize.proofs.recognize.Reads as reads
 use Rattle.image_recognize.proofs.recognize.Lts as lts
-use Rattle.image_recognize.proofs.recognize_large.Reads as recognize-large-reads
-use Rattle.image_recognize.proofs.recognize_medium.Reads as recognize-medium-reads
-use Rattle.image_recognize.proofs.recognize_small.Reads as recognize-small-reads
+use Rattle.image_recognize.proofs.recognize_few.Reads as recognize-few-reads
+use Rattle.image_recognize.proofs.recognize_many.Reads as recognize-many-reads
 
 returns : tie.Need-returns
 returns c =
@@ -18,8 +17,8 @@ returns c =
     let bytes = args .image .now in
     stop bytes (too-long bytes (all-of-indices IsByte bytes 0 (λ i l. omega (arith, c .before .before .shared-slice-known .given i))) (c .if1 .taken)) (args .keys .now) (args .keys .now)
 
-recognize-small-requires : tie.Need-recognize-small-requires
-recognize-small-requires c κs = search needs
+recognize-few-requires : tie.Need-recognize-few-requires
+recognize-few-requires c κs = search needs
 
 same-length : tie.Need-same-length
 same-length c = search needs
@@ -27,8 +26,8 @@ same-length c = search needs
 returns-2 : tie.Need-returns-2
 returns-2 c = search needs
 
-recognize-medium-requires : tie.Need-recognize-medium-requires
-recognize-medium-requires c κs = search needs
+recognize-many-requires : tie.Need-recognize-many-requires
+recognize-many-requires c κs = search needs
 
 same-length-2 : tie.Need-same-length-2
 same-length-2 c = search needs
@@ -36,26 +35,14 @@ same-length-2 c = search needs
 returns-3 : tie.Need-returns-3
 returns-3 c = search needs
 
-recognize-large-requires : tie.Need-recognize-large-requires
-recognize-large-requires c κs = search needs
-
-same-length-3 : tie.Need-same-length-3
-same-length-3 c = search needs
-
-returns-4 : tie.Need-returns-4
-returns-4 c = search needs
-
 pub recognize-spec : {M : Type 1} → statement M
 recognize-spec =
     tie.close
     (tie.spec
     returns
-    recognize-small-requires
+    recognize-few-requires
     same-length
     returns-2
-    recognize-medium-requires
+    recognize-many-requires
     same-length-2
-    returns-3
-    recognize-large-requires
-    same-length-3
-    returns-4)
+    returns-3)

@@ -2,7 +2,7 @@
 use mathlib.Core.List.{List, [], _∷_, _++_, flatMap}
 use mathlib.Core.Path.{_≡_, refl, sym, ap, _∙_, subst₂}
 use native.Mathlib.Numerals.{add-one}
-use Prim.Native.Nat.{ℕ, _≤_, _-_, _+_, _*_}
+use Prim.Native.Nat.{ℕ, _≤_, _-_, _+_}
 use native.Mathlib.Omega.{arith}
 use lib.ListN.{length, set, length-set}
 use Rattle.lists.proofs.Keep.{all-at}
@@ -48,6 +48,9 @@ mul-emit-slot c = search needs
 
 shared-slice-read-emit-slot : tie.Need-shared-slice-read-emit-slot Inv-loop μ-loop
 shared-slice-read-emit-slot c = search needs
+
+cast-emit-slot : tie.Need-cast-emit-slot Inv-loop μ-loop
+cast-emit-slot c = omega (arith, c .shared-slice-known8 .given (c .before .before .loop .s))
 
 mul-emit-slot-2 : tie.Need-mul-emit-slot-2 Inv-loop μ-loop
 mul-emit-slot-2 c = let long = c .before .before .before .before .before .before .before .before .before .before .before .before .before .pre .1 .1 in omega arith
@@ -106,6 +109,7 @@ emit-spec =
     loop-holds
     mul-emit-slot
     shared-slice-read-emit-slot
+    cast-emit-slot
     mul-emit-slot-2
     add-emit-slot
     emit-slot-requires

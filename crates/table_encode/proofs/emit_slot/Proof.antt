@@ -39,6 +39,9 @@ mul-key-at c = search needs
 shared-slice-read-key-at : tie.Need-shared-slice-read-key-at
 shared-slice-read-key-at c = search needs
 
+cast-key-at : tie.Need-cast-key-at
+cast-key-at c = omega (arith, c .shared-slice-known8 .given (c .before .before .before .before .before .before .before .before .before .before .args .position - 1))
+
 key-at-requires : tie.Need-key-at-requires
 key-at-requires c κs =
     let start = c .before .before .before .before .before .before .before .before .before .before in
@@ -50,6 +53,9 @@ mul-key-at-2 c = search needs
 
 shared-slice-read-key-at-2 : tie.Need-shared-slice-read-key-at-2
 shared-slice-read-key-at-2 c = search needs
+
+cast-key-at-2 : tie.Need-cast-key-at-2
+cast-key-at-2 c = omega (arith, c .shared-slice-known9 .given (c .before .before .before .before .before .before .before .before .before .before .before .before .args .position - 1))
 
 key-at-requires-2 : tie.Need-key-at-requires-2
 key-at-requires-2 c κs =
@@ -63,6 +69,9 @@ mul-key-at-3 c = search needs
 shared-slice-read-key-at-3 : tie.Need-shared-slice-read-key-at-3
 shared-slice-read-key-at-3 c = search needs
 
+cast-key-at-3 : tie.Need-cast-key-at-3
+cast-key-at-3 c = omega (arith, c .shared-slice-known10 .given (c .before .before .before .before .before .before .before .before .before .before .before .before .before .before .args .position - 1))
+
 key-at-requires-3 : tie.Need-key-at-requires-3
 key-at-requires-3 c κs =
     let start = c .before .before .before .before .before .before .before .before .before .before .before .before .before .before in
@@ -75,11 +84,17 @@ mul-write-slot c = search needs
 shared-slice-read-write-slot : tie.Need-shared-slice-read-write-slot
 shared-slice-read-write-slot c = search needs
 
+cast-write-slot : tie.Need-cast-write-slot
+cast-write-slot c = omega (arith, c .shared-slice-known11 .given (c .before .before .before .before .before .before .before .before .before .before .before .before .before .before .before .before .before .args .position - 1))
+
 mul-write-slot-2 : tie.Need-mul-write-slot-2
 mul-write-slot-2 c = search needs
 
 shared-slice-read-write-slot-2 : tie.Need-shared-slice-read-write-slot-2
 shared-slice-read-write-slot-2 c = search needs
+
+cast-write-slot-2 : tie.Need-cast-write-slot-2
+cast-write-slot-2 c = omega (arith, c .shared-slice-known12 .given (c .before .before .before .before .before .before .before .before .before .before .before .before .before .before .before .before .before .before .args .position - 1))
 
 write-slot-requires-2 : tie.Need-write-slot-requires-2
 write-slot-requires-2 c κs = search needs
@@ -107,17 +122,22 @@ emit-slot-spec =
     shared-slice-read-key
     mul-key-at
     shared-slice-read-key-at
+    cast-key-at
     key-at-requires
     mul-key-at-2
     shared-slice-read-key-at-2
+    cast-key-at-2
     key-at-requires-2
     mul-key-at-3
     shared-slice-read-key-at-3
+    cast-key-at-3
     key-at-requires-3
     mul-write-slot
     shared-slice-read-write-slot
+    cast-write-slot
     mul-write-slot-2
     shared-slice-read-write-slot-2
+    cast-write-slot-2
     write-slot-requires-2
     same-length-2
     returns-2)

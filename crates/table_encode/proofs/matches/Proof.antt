@@ -1,6 +1,6 @@
 -- `table_encode::matches` meets its contract. The loop's invariant: the words before slot s are those of the columns. Assumes nothing.
-use mathlib.Core.Path.{_≡_, refl, sym, ap, _∙_, subst}
-use Prim.Native.Nat.{ℕ, _≤_, _-_}
+use mathlib.Core.Path.{_≡_, refl, sym, _∙_, subst}
+use Prim.Native.Nat.{_≤_, _-_}
 use native.Mathlib.Numerals.{add-one}
 use native.Mathlib.Omega.{arith}
 use lib.ListN.{length}
@@ -72,6 +72,9 @@ mul-slot-matches c = search needs
 shared-slice-read-slot-matches : tie.Need-shared-slice-read-slot-matches Inv-loop μ-loop
 shared-slice-read-slot-matches c = search needs
 
+cast-slot-matches : tie.Need-cast-slot-matches Inv-loop μ-loop
+cast-slot-matches c = omega (arith, c .shared-slice-known12 .given (c .before .before .loop .s))
+
 mul-slot-matches-2 : tie.Need-mul-slot-matches-2 Inv-loop μ-loop
 mul-slot-matches-2 c = let long = c .before .before .before .before .before .before .before .before .before .before .before .before .before .before .before .before .before .before .pre .1 .1 in omega arith
 
@@ -128,6 +131,7 @@ matches-spec =
     loop-holds
     mul-slot-matches
     shared-slice-read-slot-matches
+    cast-slot-matches
     mul-slot-matches-2
     add-slot-matches
     slot-matches-requires

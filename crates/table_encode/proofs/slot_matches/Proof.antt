@@ -38,6 +38,9 @@ mul-key-at c = search needs
 shared-slice-read-key-at : tie.Need-shared-slice-read-key-at
 shared-slice-read-key-at c = search needs
 
+cast-key-at : tie.Need-cast-key-at
+cast-key-at c = omega (arith, c .shared-slice-known9 .given (c .before .before .before .before .before .before .before .before .before .before .args .position - 1))
+
 key-at-requires : tie.Need-key-at-requires
 key-at-requires c κs =
     let start = c .before .before .before .before .before .before .before .before .before .before in
@@ -49,6 +52,9 @@ mul-key-at-2 c = search needs
 
 shared-slice-read-key-at-2 : tie.Need-shared-slice-read-key-at-2
 shared-slice-read-key-at-2 c = search needs
+
+cast-key-at-2 : tie.Need-cast-key-at-2
+cast-key-at-2 c = omega (arith, c .shared-slice-known10 .given (c .before .before .before .before .before .before .before .before .before .before .before .before .args .position - 1))
 
 key-at-requires-2 : tie.Need-key-at-requires-2
 key-at-requires-2 c κs =
@@ -62,6 +68,9 @@ mul-key-at-3 c = search needs
 shared-slice-read-key-at-3 : tie.Need-shared-slice-read-key-at-3
 shared-slice-read-key-at-3 c = search needs
 
+cast-key-at-3 : tie.Need-cast-key-at-3
+cast-key-at-3 c = omega (arith, c .shared-slice-known11 .given (c .before .before .before .before .before .before .before .before .before .before .before .before .before .before .args .position - 1))
+
 key-at-requires-3 : tie.Need-key-at-requires-3
 key-at-requires-3 c κs =
     let start = c .before .before .before .before .before .before .before .before .before .before .before .before .before .before in
@@ -74,11 +83,17 @@ mul-slot-is c = search needs
 shared-slice-read-slot-is : tie.Need-shared-slice-read-slot-is
 shared-slice-read-slot-is c = search needs
 
+cast-slot-is : tie.Need-cast-slot-is
+cast-slot-is c = omega (arith, c .shared-slice-known12 .given (c .before .before .before .before .before .before .before .before .before .before .before .before .before .before .before .before .args .position - 1))
+
 mul-slot-is-2 : tie.Need-mul-slot-is-2
 mul-slot-is-2 c = search needs
 
 shared-slice-read-slot-is-2 : tie.Need-shared-slice-read-slot-is-2
 shared-slice-read-slot-is-2 c = search needs
+
+cast-slot-is-2 : tie.Need-cast-slot-is-2
+cast-slot-is-2 c = omega (arith, c .shared-slice-known13 .given (c .before .before .before .before .before .before .before .before .before .before .before .before .before .before .before .before .before .args .position - 1))
 
 slot-is-requires-2 : tie.Need-slot-is-requires-2
 slot-is-requires-2 c κs = search needs
@@ -102,16 +117,21 @@ slot-matches-spec =
     shared-slice-read-key
     mul-key-at
     shared-slice-read-key-at
+    cast-key-at
     key-at-requires
     mul-key-at-2
     shared-slice-read-key-at-2
+    cast-key-at-2
     key-at-requires-2
     mul-key-at-3
     shared-slice-read-key-at-3
+    cast-key-at-3
     key-at-requires-3
     mul-slot-is
     shared-slice-read-slot-is
+    cast-slot-is
     mul-slot-is-2
     shared-slice-read-slot-is-2
+    cast-slot-is-2
     slot-is-requires-2
     returns-2)

@@ -1,215 +1,59 @@
--- `table_examine::examine` meets its contract. Assumes nothing.
-use mathlib.Core.Bool.{true, false}
-use mathlib.Core.List.{List}
-use mathlib.Core.Path.{_≡_, refl, sym, ap, _∙_, subst}
-use Prim.Native.Nat.{ℕ, _≤_}
-use native.Mathlib.Omega.{arith}
-use lib.ListN.{length, getD, take}
-use lib.Seq.{length-take-le}
-use borrow.Author.Tests.{not-true, not-false}
-use Rattle.lists.specs.Lists.{lies, risesB, same}
-use Rattle.lists.proofs.Tests.{true-or-false}
-use Rattle.table.specs.Layout.{leastOrder, greatestOrder, orderWord}
-use Rattle.table.specs.Contents.{tableOrder}
-use Rattle.table.specs.Table.{fresh, contentsOf}
-use Rattle.table.specs.Sound.{soundWith}
-use Rattle.table.proofs.Soundness.{shown-fit}
-use Rattle.table_prepare.specs.Prepared.{Keys}
-use Rattle.table_prepare.proofs.Preparing.{room}
-use Rattle.table_examine.proofs.Verdicts.{order-wrong, keys-do-not-rise, decided, unsound, verdict-is, keys-read, can-be-compared, compared}
+-- `table_examine::examine` meets its contract: every list is as long as a table may have slots. Assumes nothing.
 use borrow.Author.Needs.{needs}
 use Rattle.table_examine.proofs.examine.Statement.{statement}
 use Rattle.table_examine.proofs.examine.Tie as tie
 use Rattle.table_examine.proofs.examine.Reads as reads
 use Rattle.table_examine.proofs.examine.Lts as lts
-use Rattle.table_assemble.proofs.compare.Reads as compare-reads
-use Rattle.table_decode.proofs.rises.Reads as rises-reads
-use Rattle.table_limits.proofs.is_order.Reads as is-order-reads
-use Rattle.table_examine.proofs.read_keys.Reads as read-keys-reads
-use Rattle.table_examine.proofs.conclude.Reads as conclude-reads
+use Rattle.table_examine.proofs.examine_within.Reads as examine-within-reads
 
--- ---- the ways between places
-abbrev begun : tie.After-read-keys → tie.Start
-begun p = p .before .before .before .before .before .before .before .before .before .before .before .before .before .before .before .before .before .before .before
+slice-aggregate-examine-within : tie.Need-slice-aggregate-examine-within
+slice-aggregate-examine-within c = search needs
 
-abbrev rises-tested : tie.Else2 → tie.After-read-keys
-rises-tested p = p .before .before .before .before .before .before .before .before .before .before .before .before .before
+slice-aggregate-examine-within-2 : tie.Need-slice-aggregate-examine-within-2
+slice-aggregate-examine-within-2 c = search needs
 
--- ---- what is known once the keys are read: the order is one that a table may have, and the list begins with the keys that the table shows
-abbrev slots-in : tie.After-read-keys → ℕ
-slots-in p = begun p .args .many
+slice-aggregate-examine-within-3 : tie.Need-slice-aggregate-examine-within-3
+slice-aggregate-examine-within-3 c = search needs
 
-abbrev words-in : tie.After-read-keys → List ℕ
-words-in p = begun p .args .table .now
+slice-aggregate-examine-within-4 : tie.Need-slice-aggregate-examine-within-4
+slice-aggregate-examine-within-4 c = search needs
 
-abbrev list-in : tie.After-read-keys → List ℕ
-list-in p = p .read-keys .last .1 .1 .1 .1 .1 .1 .0
+slice-aggregate-examine-within-5 : tie.Need-slice-aggregate-examine-within-5
+slice-aggregate-examine-within-5 c = search needs
 
-right : (p : tie.After-read-keys) → lies leastOrder greatestOrder (getD (words-in p) orderWord 0) ≡ true
-unfolding tableOrder
-right p = let order = p .before .before .before .before .before .before .before .is-order in sym (order .ensures) ∙ not-false (order .result) (p .before .before .before .before .before .before .if1 .left)
+slice-aggregate-examine-within-6 : tie.Need-slice-aggregate-examine-within-6
+slice-aggregate-examine-within-6 c = search needs
 
-read : (p : tie.After-read-keys) → take (p .read-keys .result) (list-in p) ≡ contentsOf (slots-in p) (words-in p) .keys
-read p = keys-read (slots-in p) (words-in p) (begun p .args .keys .now) (list-in p) (p .read-keys .result) (p .read-keys .ensures .1) (p .read-keys .ensures .0)
+slice-aggregate-examine-within-7 : tie.Need-slice-aggregate-examine-within-7
+slice-aggregate-examine-within-7 c = search needs
 
-few : (p : tie.After-read-keys) → p .read-keys .result ≤ slots-in p
-few p = omega (arith, p .read-keys .ensures .0, shown-fit (slots-in p) (words-in p))
+slice-aggregate-examine-within-8 : tie.Need-slice-aggregate-examine-within-8
+slice-aggregate-examine-within-8 c = search needs
 
-fits : (p : tie.After-read-keys) → p .read-keys .result ≤ length (list-in p)
-fits p = room (list-in p) (contentsOf (slots-in p) (words-in p) .keys) (p .read-keys .result) (read p) (sym (p .read-keys .ensures .0))
-
--- ---- and once they are known to rise
-all-rise : (q : tie.Else2) → risesB (contentsOf (slots-in (rises-tested q)) (words-in (rises-tested q)) .keys) ≡ true
-all-rise q = ap risesB (sym (read (rises-tested q))) ∙ sym (q .before .rises .ensures) ∙ not-false (q .before .rises .result) (q .if2 .left)
-
-comparable : (q : tie.Else2) → Keys (getD (words-in (rises-tested q)) orderWord 0) (take (rises-tested q .read-keys .result) (list-in (rises-tested q)))
-comparable q =
-    let p = rises-tested q in
-    subst (Keys (getD (words-in p) orderWord 0)) (sym (read p)) (can-be-compared (slots-in p) (words-in p) (begun p .pre .0 .1) (right p) (all-rise q))
-
--- soundness is what comparing the words tells
-compares : (q : tie.Else2) → soundWith (slots-in (rises-tested q)) (words-in (rises-tested q))
-    ≡ same (words-in (rises-tested q)) (fresh (length (begun (rises-tested q) .args .slots .now)) (record { order = getD (words-in (rises-tested q)) orderWord 0; keys = take (rises-tested q .read-keys .result) (list-in (rises-tested q)) }))
-compares q =
-    let p = rises-tested q in
-    decided (slots-in p) (words-in p) (right p) (all-rise q)
-    ∙ sym (compared (slots-in p) (words-in p) (getD (words-in p) orderWord 0) (take (p .read-keys .result) (list-in p)) (length (begun p .args .slots .now)) refl (read p) (begun p .pre .0 .3))
-
-shared-slice-read-order : tie.Need-shared-slice-read-order
-shared-slice-read-order c = search needs
-
-is-order-requires : tie.Need-is-order-requires
-is-order-requires c κs = search needs
-
-returns : tie.Need-returns
-unfolding tableOrder
-returns c =
-    let start = c .before .before .before .before .before .before .before .before .before .before .before .before .before in
-    let many = start .args .many in
-    let words = start .args .table .now in
-    let order = c .before .is-order in
-    let e : soundWith many words ≡ false = order-wrong many words (sym (order .ensures) ∙ not-true (order .result) (c .if1 .taken)) in
-    (unsound many words e, λ t. absurd (true-or-false (soundWith many words) t e))
-
-read-keys-requires : tie.Need-read-keys-requires
-read-keys-requires c κs = search needs
-
-rises-requires : tie.Need-rises-requires
-rises-requires c κs = fits (c .before .before .before .before .before .before .before .before .before .before .before)
+examine-within-requires : tie.Need-examine-within-requires
+examine-within-requires c κs =
+    let pre = c .before .before .before .before .before .before .before .before .before .before .before .pre in
+    let fit = pre .1 in
+    ((pre .0, fit, pre .2, pre .3), ((fit, fit, fit, fit), (fit, fit, fit, fit, pre .4)))
 
 same-length : tie.Need-same-length
 same-length c = search needs
 
-same-length-2 : tie.Need-same-length-2
-same-length-2 c = search needs
-
-same-length-3 : tie.Need-same-length-3
-same-length-3 c = search needs
-
-same-length-4 : tie.Need-same-length-4
-same-length-4 c = search needs
-
-same-length-5 : tie.Need-same-length-5
-same-length-5 c = search needs
-
-returns-2 : tie.Need-returns-2
-returns-2 c =
-    let p = c .before .before .before .before .before .before .before .before .before .before .before .before .before in
-    let many = slots-in p in
-    let words = words-in p in
-    let e : soundWith many words ≡ false = keys-do-not-rise many words (right p) (ap risesB (sym (read p)) ∙ sym (c .before .rises .ensures) ∙ not-true (c .before .rises .result) (c .if2 .taken)) in
-    (unsound many words e, λ t. absurd (true-or-false (soundWith many words) t e))
-
-slice-reshare-prefix-compare : tie.Need-slice-reshare-prefix-compare
-slice-reshare-prefix-compare c = fits (rises-tested c)
-
-slice-aggregate-compare : tie.Need-slice-aggregate-compare
-slice-aggregate-compare c = let p = rises-tested (c .before) in sym (length-take-le (p .read-keys .result) (list-in p) (fits p))
-
-compare-requires : tie.Need-compare-requires
-compare-requires c κs =
-    let p = rises-tested (c .before .before .before .before .before .before .before .before .before) in
-    let start = begun p in
-    let n = length-take-le (p .read-keys .result) (list-in p) (fits p) in
-    let at-most = few p in (
-      comparable (c .before .before .before .before .before .before .before .before .before),
-      (
-        (omega (arith, n, start .pre .1 .0, c .before .before .before .before .before .before .before .before .before .before .before .before .before .before .before .before .before .before .before .weights .given), omega (arith, n, start .pre .1 .0, c .before .before .before .before .before .before .before .before .before .before .before .before .before .before .before .before .before .ranking .given)),
-        (
-          (omega (arith, n, start .pre .1 .1 .0, c .before .before .before .before .before .before .before .before .before .before .before .before .before .before .before .left .given), omega (arith, n, start .pre .1 .1 .0)),
-          (
-            (omega (arith, n, start .pre .1 .1 .0, c .before .before .before .before .before .before .before .before .before .before .before .before .before .before .before .before .before .before .before .before .before .rank .given), omega (arith, n, start .pre .1 .1 .1), omega (arith, n, start .pre .1 .1 .1)),
-            ((omega (arith, start .pre .0), omega (arith, n, start .pre .0), start .pre .1 .1 .1 .2), omega (arith, start .pre .0)),
-          ),
-        ),
-      ),
-    )
-
-conclude-requires : tie.Need-conclude-requires
-conclude-requires c κs = search needs
-
-same-length-6 : tie.Need-same-length-6
-same-length-6 c = search needs
-
-same-length-7 : tie.Need-same-length-7
-same-length-7 c = search needs
-
-same-length-8 : tie.Need-same-length-8
-same-length-8 c = search needs
-
-same-length-9 : tie.Need-same-length-9
-same-length-9 c = search needs
-
-same-length-10 : tie.Need-same-length-10
-same-length-10 c = search needs
-
-same-length-11 : tie.Need-same-length-11
-same-length-11 c = search needs
-
-same-length-12 : tie.Need-same-length-12
-same-length-12 c = search needs
-
-same-length-13 : tie.Need-same-length-13
-same-length-13 c = search needs
-
-same-length-14 : tie.Need-same-length-14
-same-length-14 c = search needs
-
-returns-3 : tie.Need-returns-3
-returns-3 c =
-    let q = c .before .before .before .before .before .before .before .before .before .before .before .before .before .before .before .before .before .before .before .before .before .before .before .before .before .before .before in
-    let p = rises-tested q in
-    let compare = c .before .before .before .before .before .before .before .before .before .before .before .before .before .before .before .before .before .compare in (
-      c .conclude .ensures ∙ verdict-is (slots-in p) (words-in p) (compare .result) (p .read-keys .result) (compares q ∙ sym (compare .ensures)) (p .read-keys .ensures .0),
-      λ t. p .read-keys .ensures .1,
-    )
+returns : tie.Need-returns
+returns c = search needs
 
 pub examine-spec : {M : Type 1} → statement M
 examine-spec =
     tie.close
     (tie.spec
-    shared-slice-read-order
-    is-order-requires
-    returns
-    read-keys-requires
-    rises-requires
+    slice-aggregate-examine-within
+    slice-aggregate-examine-within-2
+    slice-aggregate-examine-within-3
+    slice-aggregate-examine-within-4
+    slice-aggregate-examine-within-5
+    slice-aggregate-examine-within-6
+    slice-aggregate-examine-within-7
+    slice-aggregate-examine-within-8
+    examine-within-requires
     same-length
-    same-length-2
-    same-length-3
-    same-length-4
-    same-length-5
-    returns-2
-    slice-reshare-prefix-compare
-    slice-aggregate-compare
-    compare-requires
-    conclude-requires
-    same-length-6
-    same-length-7
-    same-length-8
-    same-length-9
-    same-length-10
-    same-length-11
-    same-length-12
-    same-length-13
-    same-length-14
-    returns-3)
+    returns)

@@ -1,63 +1,69 @@
--- `table_slots::place` meets its contract. The loop's invariant: the first j positions of the order are placed. Assumes nothing.
-use mathlib.Core.Path.{_≡_, refl, sym, ap, _∙_, subst₃}
-use Prim.Native.Nat.{ℕ, suc, _<_, _≤_, _-_}
+-- `table_slots::place` meets its contract. The loop's invariant: the first j positions of the order are placed, and the skips hold. Assumes nothing.
+use mathlib.Core.List.{List}
+use mathlib.Core.Path.{_≡_, refl, sym, ap, ap₂, _∙_, subst₂}
+use Prim.Native.Nat.{ℕ, suc, _-_}
 use native.Mathlib.Omega.{arith}
 use native.Mathlib.Numerals.{add-one}
 use lib.ListN.{length, getD, set, length-replicate}
 use Rattle.treap.specs.Slots.{firstEmpty, slotsOf}
 use Rattle.priority.proofs.Bounds.{homeOf-below}
 use Rattle.treap_columns.specs.Positions.{positions, weightAt}
-use Rattle.table_slots.proofs.Placed.{homeAt, Placed, starts, index-below, has-room, placed-next, placed-end}
+use Rattle.table_slots.specs.Skips.{Skips}
+use Rattle.table_slots.proofs.Placed.{homeAt, Placed, starts, Turn, turn, placed-end}
 use borrow.Author.Needs.{needs}
 use Rattle.table_slots.proofs.place.Statement.{statement}
 use Rattle.table_slots.proofs.place.Tie as tie
 use Rattle.table_slots.proofs.place.Reads as reads
 use Rattle.table_slots.proofs.place.Lts as lts
 use Rattle.priority.proofs.home.Reads as home-reads
-use Rattle.table_slots.proofs.clear.Reads as clear-reads
-use Rattle.table_slots.proofs.first_empty.Reads as first-empty-reads
+use Rattle.table_slots.proofs.begin.Reads as begin-reads
+use Rattle.table_slots.proofs.put.Reads as put-reads
 
 abbrev Inv-loop : tie.InvT-loop
-Inv-loop weights order slots₀ many j₀ j-end slots j =
-    (j-end ≡ length order) × (many ≡ length slots₀) × Placed weights order (length slots₀) slots j
+Inv-loop weights order slots₀ skip₀ many j₀ j-end slots skip j =
+    (j-end ≡ length order) × (many ≡ length slots₀) × (length skip ≡ length skip₀) × Placed weights order (length slots₀) slots j × Skips slots skip
 
 abbrev μ-loop : tie.MeasureT-loop
-μ-loop weights order slots₀ many j₀ j-end slots j = length order - j
+μ-loop weights order slots₀ skip₀ many j₀ j-end slots skip j = length order - j
 
-clear-requires : tie.Need-clear-requires Inv-loop μ-loop
-clear-requires c κs = search needs
+-- the loop: what was lent, and as many slots as were lent
+module _ (p : tie.At-loop Inv-loop μ-loop) where
+  abbrev start : tie.Start Inv-loop μ-loop
+  start = p .before .before .before .before .before .before .before .before .before .before .before .before
 
--- where a turn begins: as many slots as were lent, and the next index of the order
-lent : (c : tie.In-loop Inv-loop μ-loop) → length (c .before .before .before .before .clear .last .0) ≡ length (c .before .before .before .before .before .before .before .before .before .args .slots .now)
-lent c = ap length (c .before .before .before .before .clear .ensures) ∙ length-replicate (length (c .before .before .before .before .before .before .before .before .before .args .slots .now)) 0
+  abbrev begun : tie.After-begin Inv-loop μ-loop
+  begun = p .before .before .before .before .before
 
-index : (c : tie.In-loop Inv-loop μ-loop) → getD (c .before .before .before .before .before .before .before .before .before .args .order .now) (c .before .loop .j) 0 < length (c .before .before .before .before .before .before .before .before .before .args .weights .now)
-index c =
-    let start = c .before .before .before .before .before .before .before .before .before in
-    let same = lent c in
-    index-below (start .args .weights .now) (start .args .order .now) (length (c .before .before .before .before .clear .last .0)) (start .pre .0) (omega arith) (omega arith) (c .before .loop .slots) (c .before .loop .j) (c .before .loop .inv .2) (omega arith)
+  abbrev weights : List ℕ
+  weights = start .args .weights .now
 
--- where the slot is written: it is the first empty one from the position's home on
-found : (c : tie.After-first-empty Inv-loop μ-loop) →
-    c .first-empty .result
-    ≡ firstEmpty (c .before .before .before .before .before .before .loop .slots)
-    (homeAt (c .before .before .before .before .before .before .before .before .before .before .before .before .before .before .args .weights .now) (length (c .before .before .before .before .before .before .before .before .before .clear .last .0))
-    (suc (getD (c .before .before .before .before .before .before .before .before .before .before .before .before .before .before .args .order .now) (c .before .before .before .before .before .before .loop .j) 0)))
-found c = c .first-empty .ensures ∙ ap (firstEmpty (c .before .before .before .before .before .before .loop .slots)) (c .before .before .home .ensures)
+  abbrev order : List ℕ
+  order = start .args .order .now
 
-room : (c : tie.After-first-empty Inv-loop μ-loop) → c .first-empty .result < length (c .before .before .before .before .before .before .loop .slots)
-room c =
-    let turn = c .before .before .before .before .before in
-    let start = turn .before .before .before .before .before .before .before .before .before in
-    let same = lent turn in
-    omega (
-      arith,
-      found c,
-      has-room (start .args .weights .now) (start .args .order .now) (length (turn .before .before .before .before .clear .last .0)) (start .pre .0) (omega arith) (omega arith) (turn .before .loop .slots) (turn .before .loop .j) (turn .before .loop .inv .2) (omega arith),
-    )
+  abbrev many : ℕ
+  many = length (begun .begin .last .0)
+
+  lent : many ≡ length (start .args .slots .now)
+  lent = ap length (begun .begin .ensures .0) ∙ length-replicate (length (start .args .slots .now)) 0
+
+-- a turn: the next index of the order, its home, and what placing it there gives
+module _ (c : tie.In-loop Inv-loop μ-loop) where
+  abbrev index : ℕ
+  index = getD (order (c .before)) (c .before .loop .j) 0
+
+  abbrev homed : ℕ
+  homed = homeAt (weights (c .before)) (many (c .before)) (suc index)
+
+  turns : Turn (weights (c .before)) (order (c .before)) (many (c .before)) (c .before .loop .slots) (c .before .loop .j)
+  turns =
+      let size = lent (c .before) in
+      turn (weights (c .before)) (order (c .before)) (many (c .before)) (start (c .before) .pre .0) (omega arith) (omega arith) (c .before .loop .slots) (c .before .loop .j) (c .before .loop .inv .3) (omega arith)
+
+begin-requires : tie.Need-begin-requires Inv-loop μ-loop
+begin-requires c κs = search needs
 
 loop-holds : tie.Need-loop-holds Inv-loop μ-loop
-loop-holds c = (search needs, search needs, starts _ _ _ (length (c .before .before .before .before .before .before .before .args .slots .now)) (c .before .before .clear .ensures))
+loop-holds c = (refl, refl, refl, starts _ _ _ (length (c .before .before .before .before .before .before .before .before .before .before .before .args .slots .now)) (c .before .before .before .before .begin .ensures .0), c .before .before .before .before .begin .ensures .1)
 
 mul-i : tie.Need-mul-i Inv-loop μ-loop
 mul-i c = search needs
@@ -65,29 +71,32 @@ mul-i c = search needs
 shared-slice-read-i : tie.Need-shared-slice-read-i Inv-loop μ-loop
 shared-slice-read-i c = search needs
 
+cast-home : tie.Need-cast-home Inv-loop μ-loop
+cast-home c = omega (arith, c .shared-slice-known3 .given (c .before .before .loop .j))
+
 mul-home : tie.Need-mul-home Inv-loop μ-loop
-mul-home c = let h = index (c .before) in let size = c .shared-slice-known3 .given in omega arith
+mul-home c = omega (arith, c .shared-slice-known3 .given (c .before .before .loop .j))
 
 shared-slice-read-home : tie.Need-shared-slice-read-home Inv-loop μ-loop
-shared-slice-read-home c = index (c .before .before)
+shared-slice-read-home c = turns (c .before .before) .listed
 
 home-requires : tie.Need-home-requires Inv-loop μ-loop
-home-requires c κs = let same = lent (c .before .before) in omega arith
+home-requires c κs = let size = lent (c .before .before .before) in omega arith
 
-first-empty-requires : tie.Need-first-empty-requires Inv-loop μ-loop
-first-empty-requires c κs =
-    let turn = c .before .before .before .before in
-    let same = lent turn in
-    omega (arith, c .before .home .ensures, homeOf-below (getD (turn .before .before .before .before .before .before .before .before .before .args .weights .now) (getD (turn .before .before .before .before .before .before .before .before .before .args .order .now) (turn .before .loop .j) 0) 0) {slots = length (turn .before .before .before .before .clear .last .0)} (omega arith), turn .before .loop .inv .2 .size)
+add-put : tie.Need-add-put Inv-loop μ-loop
+add-put c = let size = lent (c .before .before .before .before .before .before) in omega (arith, turns (c .before .before .before .before .before) .listed)
 
-add-slots : tie.Need-add-slots Inv-loop μ-loop
-add-slots c = let h = index (c .before .before .before .before .before) in let size = c .before .before .before .before .shared-slice-known3 .given in omega arith
-
-mul-slots : tie.Need-mul-slots Inv-loop μ-loop
-mul-slots c = let h = room c in omega arith
-
-slice-write-slots : tie.Need-slice-write-slots Inv-loop μ-loop
-slice-write-slots c = room c
+put-requires : tie.Need-put-requires Inv-loop μ-loop
+put-requires c κs =
+    let t = c .before .before .before .before .before in
+    let size = lent (t .before) in
+    let home : c .before .before .home .result ≡ homed t = c .before .before .home .ensures in
+    let slots = t .before .loop .slots in
+    let below = homeOf-below (weightAt (weights (t .before)) (suc (index t))) {slots = many (t .before)} (omega arith) in
+    let same = t .before .loop .inv .3 .size in (
+      t .before .loop .inv .4,
+      (omega (arith, below, home), rw home (turns t .free), omega arith, λ e. omega arith),
+    )
 
 add-j : tie.Need-add-j Inv-loop μ-loop
 add-j c = search needs
@@ -97,32 +106,30 @@ loop-less c = search needs
 
 loop-again : tie.Need-loop-again Inv-loop μ-loop
 loop-again c =
-    let turn = c .before .before .before .before .before in
-    let start = turn .before .before .before .before .before .before .before .before .before in
-    let order = start .args .order .now in
-    let ws = start .args .weights .now in
-    let loop = turn .before .loop in
-    let many = length (turn .before .before .before .before .clear .last .0) in
-    let same = lent turn in
-    let i = getD order (loop .j) 0 in
-    let next = placed-next ws order many (start .pre .0) (omega arith) (omega arith) (loop .slots) (loop .j) (loop .inv .2) (omega arith) in (
+    let t = c .before .before .before .before .before .before .before .before .before .before in
+    let loop = t .before .loop in
+    let put = c .before .before .before .before .put in
+    let written : put .last .0 ≡ set (loop .slots) (firstEmpty (loop .slots) (homed t)) (suc (index t)) =
+    put .ensures .0 ∙ ap₂ (λ (home position : ℕ). set (loop .slots) (firstEmpty (loop .slots) home) position) (c .before .before .before .before .before .before .before .home .ensures) (add-one (index t))
+    in (
       refl,
       refl,
-      subst₃ (λ (at k n : ℕ). Placed ws order many (set (loop .slots) at k) n) (sym (found c)) (sym (add-one i)) (sym (add-one (loop .j))) next,
+      search needs,
+      subst₂ (λ (s : List ℕ) (n : ℕ). Placed (weights (t .before)) (order (t .before)) (many (t .before)) s n) (sym written) (sym (add-one (loop .j))) (turns t .next),
+      put .ensures .1,
     )
 
 same-length : tie.Need-same-length Inv-loop μ-loop
-same-length c = c .before .loop .inv .2 .size ∙ ap length (c .before .before .before .before .clear .ensures) ∙ length-replicate (length (c .before .before .before .before .before .before .before .before .before .args .slots .now)) 0
+same-length c = c .before .loop .inv .3 .size ∙ lent (c .before)
+
+same-length-2 : tie.Need-same-length-2 Inv-loop μ-loop
+same-length-2 c = search needs
 
 returns : tie.Need-returns Inv-loop μ-loop
 returns c =
-    let start = c .before .before .before .before .before .before .before .before .before in
-    let ws = start .args .weights .now in
-    let same : length (c .before .before .before .before .clear .last .0) ≡ length (start .args .slots .now) =
-    ap length (c .before .before .before .before .clear .ensures) ∙ length-replicate (length (start .args .slots .now)) 0
-    in
-    placed-end ws (start .args .order .now) (length (c .before .before .before .before .clear .last .0)) (start .pre .0) (c .before .loop .slots) (c .before .loop .j) (c .before .loop .inv .2) (omega arith)
-    ∙ ap (λ (many : ℕ). slotsOf (weightAt ws) (homeAt ws many) many (positions (length ws))) same
+    let p = c .before in
+    placed-end (weights p) (order p) (many p) (start p .pre .0) (p .loop .slots) (p .loop .j) (p .loop .inv .3) (omega arith)
+    ∙ ap (λ (n : ℕ). slotsOf (weightAt (weights p)) (homeAt (weights p) n) n (positions (length (weights p)))) (lent p)
 
 pub place-spec : {M : Type 1} → statement M
 place-spec =
@@ -130,19 +137,19 @@ place-spec =
     (tie.spec
     Inv-loop
     μ-loop
-    clear-requires
+    begin-requires
     loop-holds
     mul-i
     shared-slice-read-i
+    cast-home
     mul-home
     shared-slice-read-home
     home-requires
-    first-empty-requires
-    add-slots
-    mul-slots
-    slice-write-slots
+    add-put
+    put-requires
     add-j
     loop-less
     loop-again
     same-length
+    same-length-2
     returns)

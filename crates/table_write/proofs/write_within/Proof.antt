@@ -1,44 +1,42 @@
--- `table_write::write_within` meets its contract. Assumes nothing.
+-- `table_write::write_within` meets its contract: what is prepared is written. Assumes nothing.
 use mathlib.Core.Path.{sym, ap, _∙_}
 use Prim.Native.Nat.{ℕ}
 use native.Mathlib.Omega.{arith}
-use lib.Seq.{length-take-le}
+use lib.ListN.{take}
+use Rattle.table.specs.Contents.{Contents}
 use Rattle.table.specs.Table.{fresh}
+use Rattle.table_encode.proofs.Linking.{linked, root-within, slots-low, prepared-words}
 use borrow.Author.Needs.{needs}
 use Rattle.table_write.proofs.write_within.Statement.{statement}
 use Rattle.table_write.proofs.write_within.Tie as tie
 use Rattle.table_write.proofs.write_within.Reads as reads
 use Rattle.table_write.proofs.write_within.Lts as lts
-use Rattle.table_assemble.proofs.write.Reads as write-reads
+use Rattle.table_prepare.proofs.prepare.Reads as prepare-reads
+use Rattle.table_encode.proofs.emit.Reads as emit-reads
 
-slice-relend-prefix-write : tie.Need-slice-relend-prefix-write
-slice-relend-prefix-write c = search needs
+-- the way back from the place where all is prepared
+abbrev begun : tie.After-prepare → tie.Start
+begun p = p .before .before .before .before .before .before .before .before .before .before .before .before .before .before .before .before .before .before .before
 
-slice-aggregate-write : tie.Need-slice-aggregate-write
-slice-aggregate-write c =
-    let start = c .before .before .before .before .before .before .before .before .before .before .before .before .before .before .before .before .before .before in
-    sym (length-take-le (start .args .many) (start .args .slots .now) (start .pre .1 .0 .3))
+prepare-requires : tie.Need-prepare-requires
+prepare-requires c κs =
+    let pre = c .before .before .before .before .before .before .before .before .before .before .before .before .before .before .before .before .before .before .pre in
+    (pre .0, ((pre .1 .0 .0, pre .1 .0 .1, pre .1 .0 .2), (pre .1 .1 .0, pre .1 .1 .1)))
 
-write-requires : tie.Need-write-requires
-write-requires c κs =
-    let start = c .before .before .before .before .before .before .before .before .before .before .before .before .before .before .before .before .before .before .before in
-    let fit = start .pre .1 .0 .1 in
-    let part = length-take-le (start .args .many) (start .args .slots .now) (start .pre .1 .0 .3) in
-    let first = start .pre .1 .1 .0 in
-    let last = start .pre .1 .1 .1 in (
-      start .pre .0,
+slice-reshare-prefix-emit : tie.Need-slice-reshare-prefix-emit
+slice-reshare-prefix-emit c = omega (arith, c .before .before .before .before .before .before .before .before .before .before .before .before .before .before .before .before .before .before .before .before .before .before .before .before .before .before .before .before .before .before .before .before .before .before .before .before .before .before .before .before .pre .1 .1 .1 .3, c .before .before .before .before .before .before .slots .given)
+
+slice-aggregate-emit : tie.Need-slice-aggregate-emit
+slice-aggregate-emit c = sym (c .before .before .before .before .before .before .before .before .before .before .before .before .before .before .before .before .before .before .before .before .before .before .prepare .ensures .1)
+
+emit-requires : tie.Need-emit-requires
+emit-requires c κs =
+    let start = begun (c .before .before .before .before .before .before .before .before .before .before .before .before .before .before .before .before .before .before .before .before .before .before .before) in
+    let p = c .before .before .before .before .before .before .before .before .before .before .before .before .before .before .before .before .before .before .before .before .before .before .before .prepare in (
+      linked (start .args .order) (start .pre .0 .wide) (start .args .keys .now) (p .last .1 .1 .1 .1 .1 .0) (p .last .1 .1 .1 .1 .1 .1 .0) (p .last .1 .1 .1 .1 .1 .1 .1 .0) (p .last .1 .1 .1 .1 .1 .1 .1 .1 .0) (p .last .1 .1 .1 .1 .1 .1 .1 .1 .1 .0) (take (start .args .many) (p .last .1 .1 .1 .1 .1 .1 .1 .1 .1 .1 .0)) (p .result) (p .ensures .0),
       (
-        (omega (arith, fit, first .0), omega (arith, fit, first .1)),
-        (
-          (omega (arith, fit, first .2), omega (arith, fit, first .3)),
-          (
-            (omega (arith, fit, last .0), omega (arith, fit, last .1), omega (arith, fit, last .2)),
-            (
-              (omega (arith, part, start .pre .1 .0 .0), omega (arith, part, fit), last .3),
-              omega (arith, part, start .pre .1 .0 .2),
-            ),
-          ),
-        ),
+        (root-within (start .args .order) (start .pre .0 .wide) (start .args .keys .now) (p .last .1 .1 .1 .1 .1 .0) (p .last .1 .1 .1 .1 .1 .1 .0) (p .last .1 .1 .1 .1 .1 .1 .1 .0) (p .last .1 .1 .1 .1 .1 .1 .1 .1 .0) (p .last .1 .1 .1 .1 .1 .1 .1 .1 .1 .0) (take (start .args .many) (p .last .1 .1 .1 .1 .1 .1 .1 .1 .1 .1 .0)) (p .result) (p .ensures .0), slots-low (start .args .order) (start .pre .0 .wide) (start .args .keys .now) (p .last .1 .1 .1 .1 .1 .0) (p .last .1 .1 .1 .1 .1 .1 .0) (p .last .1 .1 .1 .1 .1 .1 .1 .0) (p .last .1 .1 .1 .1 .1 .1 .1 .1 .0) (p .last .1 .1 .1 .1 .1 .1 .1 .1 .1 .0) (take (start .args .many) (p .last .1 .1 .1 .1 .1 .1 .1 .1 .1 .1 .0)) (p .result) (p .ensures .0) (start .pre .0 .rising) (start .pre .0 .some)),
+        omega (arith, start .pre .1 .0 .3, p .ensures .1),
       ),
     )
 
@@ -71,18 +69,21 @@ same-length-9 c = search needs
 
 returns : tie.Need-returns
 returns c =
-    let start = c .before .before .before .before .before .before .before .before .before .before .before .before .before .before .before .before .before .before .before .before .before .before .before .before .before .before .before .before .before .before .before .before .before .before .before .before .before .before in
-    c .before .before .before .before .before .before .before .before .before .before .before .before .before .before .before .before .before .before .write .ensures
-    ∙ ap (λ (n : ℕ). fresh n (record { order = start .args .order; keys = start .args .keys .now }))
-    (length-take-le (start .args .many) (start .args .slots .now) (start .pre .1 .0 .3))
+    let start = begun (c .before .before .before .before .before .before .before .before .before .before .before .before .before .before .before .before .before .before .before .before .before .before .before .before .before .before) in
+    let p = c .before .before .before .before .before .before .before .before .before .before .before .before .before .before .before .before .before .before .before .before .before .before .before .before .before .before .prepare in
+    let contents : Contents = record { order = start .args .order; keys = start .args .keys .now } in
+    c .before .before .emit .ensures
+    ∙ prepared-words (start .args .order) (start .pre .0 .wide) (start .args .keys .now) (p .last .1 .1 .1 .1 .1 .0) (p .last .1 .1 .1 .1 .1 .1 .0) (p .last .1 .1 .1 .1 .1 .1 .1 .0) (p .last .1 .1 .1 .1 .1 .1 .1 .1 .0) (p .last .1 .1 .1 .1 .1 .1 .1 .1 .1 .0) (take (start .args .many) (p .last .1 .1 .1 .1 .1 .1 .1 .1 .1 .1 .0)) (p .result) (p .ensures .0) (start .pre .0 .rising) (start .pre .0 .some)
+    ∙ ap (λ (m : ℕ). fresh m contents) (p .ensures .1)
 
 pub write-within-spec : {M : Type 1} → statement M
 write-within-spec =
     tie.close
     (tie.spec
-    slice-relend-prefix-write
-    slice-aggregate-write
-    write-requires
+    prepare-requires
+    slice-reshare-prefix-emit
+    slice-aggregate-emit
+    emit-requires
     same-length
     same-length-2
     same-length-3

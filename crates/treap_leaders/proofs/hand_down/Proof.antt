@@ -11,6 +11,9 @@ returns c = search needs
 sub-index : tie.Need-sub-index
 sub-index c = search needs
 
+cast-index : tie.Need-cast-index
+cast-index c = search needs
+
 mul-if2 : tie.Need-mul-if2
 mul-if2 c = search needs
 
@@ -22,6 +25,9 @@ mul-if2-2 c = search needs
 
 shared-slice-read-if2-2 : tie.Need-shared-slice-read-if2-2
 shared-slice-read-if2-2 c = search needs
+
+cast-leader : tie.Need-cast-leader
+cast-leader c = search needs
 
 add-leader : tie.Need-add-leader
 add-leader c = search needs
@@ -66,10 +72,12 @@ hand-down-spec =
     (tie.spec
     returns
     sub-index
+    cast-index
     mul-if2
     shared-slice-read-if2
     mul-if2-2
     shared-slice-read-if2-2
+    cast-leader
     add-leader
     mul-leader
     slice-write-leader

@@ -71,6 +71,9 @@ shared-slice-read-root c =
     let ready = start c .pre .0 in
     omega arith
 
+cast-root : tie.Need-cast-root Inv-loop μ-loop
+cast-root c = let low = first-low c in omega arith
+
 mul-leader : tie.Need-mul-leader Inv-loop μ-loop
 mul-leader c = let low = first-low c in omega arith
 
@@ -87,6 +90,9 @@ mul-parent c = let t = in-turn c in omega arith
 
 shared-slice-read-parent : tie.Need-shared-slice-read-parent Inv-loop μ-loop
 shared-slice-read-parent c = let t = in-turn (c .before) in omega arith
+
+cast-parent : tie.Need-cast-parent Inv-loop μ-loop
+cast-parent c = let t = in-turn (c .before) in omega arith
 
 mul-hand-down : tie.Need-mul-hand-down Inv-loop μ-loop
 mul-hand-down c = let t = in-turn (c .before) in omega arith
@@ -155,11 +161,13 @@ leaders-spec =
     μ-loop
     returns
     shared-slice-read-root
+    cast-root
     mul-leader
     slice-write-leader
     loop-holds
     mul-parent
     shared-slice-read-parent
+    cast-parent
     mul-hand-down
     shared-slice-read-hand-down
     hand-down-requires

@@ -24,8 +24,11 @@ add-count-2 c =
     let m = c .before .before .larger .result in
     omega (arith, countAt-le m (standingOf (args .left)), countAt-le m (standingOf (args .right)))
 
-add-t11 : tie.Need-add-t11
-add-t11 c = search needs
+cast-if1 : tie.Need-cast-if1
+cast-if1 c = search needs
+
+add-t12 : tie.Need-add-t12
+add-t12 c = search needs
 
 returns : tie.Need-returns
 returns c =
@@ -46,6 +49,7 @@ raise-spec =
     add-count
     count-at-requires-2
     add-count-2
-    add-t11
+    cast-if1
+    add-t12
     returns
     returns-2)

@@ -66,6 +66,9 @@ mul-index c = let t = in-turn c in omega arith
 shared-slice-read-index : tie.Need-shared-slice-read-index Inv-loop μ-loop
 shared-slice-read-index c = let t = in-turn (c .before) in omega arith
 
+cast-index : tie.Need-cast-index Inv-loop μ-loop
+cast-index c = let t = in-turn (c .before) in omega arith
+
 mul-standing-at : tie.Need-mul-standing-at Inv-loop μ-loop
 mul-standing-at c = let t = in-turn (c .before) in omega arith
 
@@ -144,6 +147,7 @@ ranks-spec =
     sub-j
     mul-index
     shared-slice-read-index
+    cast-index
     mul-standing-at
     shared-slice-read-standing-at
     standing-at-requires

@@ -11,6 +11,9 @@ returns c = search needs
 sub-index : tie.Need-sub-index
 sub-index c = search needs
 
+cast-index : tie.Need-cast-index
+cast-index c = search needs
+
 mul-t7 : tie.Need-mul-t7
 mul-t7 c = search needs
 
@@ -32,4 +35,12 @@ returns-2 c =
 pub standing-at-spec : {M : Type 1} → statement M
 standing-at-spec =
     tie.close
-    (tie.spec returns sub-index mul-t7 shared-slice-read-t6 mul-t9 shared-slice-read-t11 returns-2)
+    (tie.spec
+    returns
+    sub-index
+    cast-index
+    mul-t7
+    shared-slice-read-t6
+    mul-t9
+    shared-slice-read-t11
+    returns-2)

@@ -15,11 +15,17 @@ mul-result c = search needs
 shared-slice-read-result : tie.Need-shared-slice-read-result
 shared-slice-read-result c = search needs
 
+cast-result : tie.Need-cast-result
+cast-result c = search needs
+
 mul-result-2 : tie.Need-mul-result-2
 mul-result-2 c = search needs
 
 shared-slice-read-result-2 : tie.Need-shared-slice-read-result-2
 shared-slice-read-result-2 c = search needs
+
+cast-result-2 : tie.Need-cast-result-2
+cast-result-2 c = search needs
 
 add-result : tie.Need-add-result
 add-result c = search needs
@@ -37,8 +43,10 @@ level-at-spec =
     add-if1
     mul-result
     shared-slice-read-result
+    cast-result
     mul-result-2
     shared-slice-read-result-2
+    cast-result-2
     add-result
     returns
     returns-2)

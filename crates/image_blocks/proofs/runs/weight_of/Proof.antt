@@ -15,6 +15,9 @@ mul-result c = search needs
 shared-slice-read-result : tie.Need-shared-slice-read-result
 shared-slice-read-result c = search needs
 
+cast-result : tie.Need-cast-result
+cast-result c = omega (arith, c .shared-slice-known .given (c .before .args .j))
+
 mul-result-2 : tie.Need-mul-result-2
 mul-result-2 c =
     let start = c .before in
@@ -31,4 +34,10 @@ returns c = search needs
 pub weight-of-spec : {M : Type 1} → statement M
 weight-of-spec =
     tie.close
-    (tie.spec mul-result shared-slice-read-result mul-result-2 shared-slice-read-result-2 returns)
+    (tie.spec
+    mul-result
+    shared-slice-read-result
+    cast-result
+    mul-result-2
+    shared-slice-read-result-2
+    returns)

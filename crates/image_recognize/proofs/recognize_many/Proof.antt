@@ -1,0 +1,42 @@
+-- `image_recognize::recognize_many` meets its contract. Assumes nothing.
+use borrow.Author.Needs.{needs}
+use Rattle.image_recognize.proofs.recognize_many.Statement.{statement}
+use Rattle.image_recognize.proofs.recognize_many.Tie as tie
+use Rattle.image_recognize.proofs.recognize_many.Reads as reads
+use Rattle.image_recognize.proofs.recognize_many.Lts as lts
+use Rattle.image_recognize.proofs.recognize_within.Reads as recognize-within-reads
+
+slice-aggregate-recognize-within : tie.Need-slice-aggregate-recognize-within
+slice-aggregate-recognize-within c = search needs
+
+slice-aggregate-recognize-within-2 : tie.Need-slice-aggregate-recognize-within-2
+slice-aggregate-recognize-within-2 c = search needs
+
+slice-aggregate-recognize-within-3 : tie.Need-slice-aggregate-recognize-within-3
+slice-aggregate-recognize-within-3 c = search needs
+
+slice-aggregate-recognize-within-4 : tie.Need-slice-aggregate-recognize-within-4
+slice-aggregate-recognize-within-4 c = search needs
+
+recognize-within-requires : tie.Need-recognize-within-requires
+recognize-within-requires c κs =
+    let pre = c .before .before .before .before .before .before .before .pre in
+    ((pre .1, pre .0, pre .2), (λ n few h. few, λ n few h. few, λ n few h. few))
+
+same-length : tie.Need-same-length
+same-length c = search needs
+
+returns : tie.Need-returns
+returns c = search needs
+
+pub recognize-many-spec : {M : Type 1} → statement M
+recognize-many-spec =
+    tie.close
+    (tie.spec
+    slice-aggregate-recognize-within
+    slice-aggregate-recognize-within-2
+    slice-aggregate-recognize-within-3
+    slice-aggregate-recognize-within-4
+    recognize-within-requires
+    same-length
+    returns)

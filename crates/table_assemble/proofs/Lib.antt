@@ -1,2 +1,0 @@
--- Laws of assembling.
-pub mod Linking

@@ -1,0 +1,70 @@
+-- What is prepared can be written, and its words are the fresh table. Assumes an order of at least 2.
+use mathlib.Core.List.{List, map}
+use mathlib.Core.Path.{_≡_, sym, ap₂, _∙_, subst}
+use Prim.Native.Nat.{ℕ, suc, _<_, _≤_}
+use native.Mathlib.Omega.{arith}
+use lib.ListN.{length, getD, take, length-map}
+use Rattle.lists.specs.Lists.{All, Rising}
+use Rattle.priority.specs.Priority.{priorityOf}
+use Rattle.treap.specs.Treap.{leftLink, rightLink}
+use Rattle.treap.specs.Levels
+use Rattle.treap.specs.Levels.{leader}
+use Rattle.treap_columns.specs.Positions.{positions, weightAt}
+use Rattle.treap_columns.specs.Columns.{leftColumn, rightColumn, rankColumn, countColumn, leaderColumn}
+use Rattle.treap_columns.proofs.Filled.{column-at}
+use Rattle.table.specs.Table.{fresh}
+use Rattle.table_encode.specs.Encode.{Columns, Linked, wordsOf}
+use Rattle.table_encode.proofs.Fresh.{Right, slots-within, words-are-fresh}
+use Rattle.table_prepare.specs.Prepared.{Prepared}
+use Rattle.table_prepare.proofs.Preparing.{left-low, right-low, leader-low, root-low}
+
+module _ (order : ℕ) (wide : 2 ≤ order) (ks left right rank count lead slots : List ℕ) (root : ℕ) (made : Prepared order ks left right rank count lead slots root) where
+  abbrev columns : Columns
+  columns = record { left = left; right = right; leader = lead; rank = rank; count = count }
+
+  as-many : length (map priorityOf ks) ≡ length ks
+  as-many = length-map ks priorityOf
+
+  -- the columns of the weights, with the number of keys for that of the weights
+  over : (column : List ℕ) (g : ℕ → List ℕ) → take (length (map priorityOf ks)) column ≡ g (length (map priorityOf ks)) → take (length ks) column ≡ g (length ks)
+  over column g e = subst (λ (m : ℕ). take m column ≡ g m) as-many e
+
+  pub right-columns : Right order ks columns
+  right-columns =
+      record {
+        lefts = over left (leftColumn (map priorityOf ks)) (made .filled .lefts);
+        rights = over right (rightColumn (map priorityOf ks)) (made .filled .rights);
+        leaders = over lead (leaderColumn order (map priorityOf ks)) (made .filled .leaders);
+        ranks = over rank (rankColumn order (map priorityOf ks)) (made .filled .ranks);
+        counts = over count (countColumn order (map priorityOf ks)) (made .filled .counts);
+      }
+
+  low : (column : List ℕ) (g : ℕ → ℕ → ℕ) → take (length ks) column ≡ map (g (length ks)) (positions (length ks))
+      → ((i : ℕ) → i < length (map priorityOf ks) → g (length (map priorityOf ks)) (suc i) ≤ length (map priorityOf ks)) → (i : ℕ) → i < length ks → getD column i 0 ≤ length ks
+  low column g e bound i h =
+      subst (λ (x : ℕ). x ≤ length ks) (sym (column-at (g (length ks)) (length ks) column e i h))
+      (subst (λ (m : ℕ). g m (suc i) ≤ m) as-many (bound i (omega (arith, as-many))))
+
+  pub linked : Linked ks columns
+  linked =
+      let ws = map priorityOf ks in
+      record {
+        left-long = made .left-room;
+        right-long = made .right-room;
+        leader-long = made .leader-room;
+        rank-long = made .rank-room;
+        count-long = made .count-room;
+        left-within = low left (λ m. leftLink (weightAt ws) (positions m)) (right-columns .lefts) (left-low ws);
+        right-within = low right (λ m. rightLink (weightAt ws) (positions m)) (right-columns .rights) (right-low ws);
+        leader-within = low lead (λ m. leader order (weightAt ws) (positions m)) (right-columns .leaders) (leader-low ws order wide);
+      }
+
+  pub root-within : root ≤ length ks
+  root-within = subst (λ (r : ℕ). r ≤ length ks) (sym (made .root-is)) (root-low (weightAt (map priorityOf ks)) (length ks))
+
+  pub slots-low : Rising ks → All (λ k. 1 ≤ k) ks → All (λ i. i ≤ length ks) slots
+  slots-low rising some = subst (All (λ i. i ≤ length ks)) (sym (made .placed)) (slots-within order wide ks rising some columns right-columns (length slots))
+
+  pub prepared-words : Rising ks → All (λ k. 1 ≤ k) ks → wordsOf order ks root columns slots ≡ fresh (length slots) (record { order = order; keys = ks })
+  prepared-words rising some =
+      ap₂ (λ (r : ℕ) (s : List ℕ). wordsOf order ks r columns s) (made .root-is) (made .placed) ∙ words-are-fresh order wide ks rising some columns right-columns (length slots)

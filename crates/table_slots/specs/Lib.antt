@@ -1,0 +1,2 @@
+-- The skips of the slots.
+pub mod Skips
