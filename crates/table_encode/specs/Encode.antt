@@ -6,6 +6,7 @@ use Prim.Native.Nat.{ℕ, pred, _<_, _≤_}
 use lib.Dec.{eqb}
 use lib.ListN.{length, getD, replicate}
 use Rattle.table.specs.Layout.{slotWords}
+use Rattle.table_encode.specs.declared.Slot.{Slot}
 
 -- The key at a position; zero, no key, at position 0.
 unfoldable pub keyAt : List ℕ → ℕ → ℕ
@@ -30,6 +31,10 @@ slotAt keys c position =
     ∷ getD (c .rank) (pred position) 0
     ∷ getD (c .count) (pred position) 0
     ∷ [])
+
+-- The words of a slot as the code has them together, in their order.
+abbrev pub wordsIn : Slot → List ℕ
+wordsIn s = s .key ∷ s .left ∷ s .right ∷ s .leader ∷ s .rank ∷ s .count ∷ []
 
 -- The words of a whole table.
 unfoldable pub wordsOf : ℕ → List ℕ → ℕ → Columns → List ℕ → List ℕ

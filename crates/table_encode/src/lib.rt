@@ -5,7 +5,7 @@ ghost use Prim.Native.Nat.{_+_, _≤_};
 ghost use lib.ListN.{length, take, drop};
 ghost use Rattle.lists.specs.Lists.{overwrite, same, All};
 ghost use Rattle.table.specs.Layout.{tableWords, slotWords};
-ghost use Rattle.table_encode.specs.Encode.{keyAt, slotAt, wordsOf, Linked};
+ghost use Rattle.table_encode.specs.Encode.{keyAt, slotAt, wordsIn, wordsOf, Linked};
 use table::COUNT_FIELD;
 use table::HEADER_WORDS;
 use table::KEY_FIELD;
@@ -18,6 +18,16 @@ use table::ROOT_WORD;
 use table::SIZE_WORD;
 use table::SLOT_WORDS;
 
+// The words of a slot.
+struct Slot {
+    key: u64,
+    left: u64,
+    right: u64,
+    leader: u64,
+    rank: u64,
+    count: u64,
+}
+
 // The key at a position; 0 at position 0. Internal to this library's crates.
 pub fn key_at(keys: &[u64], position: usize) -> u64
     requires { ⌜ position ≤ length (now keys) ⌝ }
@@ -29,30 +39,8 @@ pub fn key_at(keys: &[u64], position: usize) -> u64
     keys[position - 1]
 }
 
-// Write the six words of a slot, from word `at` on.
-fn write_slot(
-    table: &mut [u64],
-    at: usize,
-    key: u64,
-    left: u64,
-    right: u64,
-    leader: u64,
-    rank: u64,
-    count: u64,
-)
-    requires { ⌜ at + slotWords ≤ length (now table) ⌝ }
-    ensures { λ _. ⌜ now (table .exit) ≡ overwrite (now (table .entry)) at (key ∷ left ∷ right ∷ leader ∷ rank ∷ count ∷ []) ⌝ }
-{
-    table[at + KEY_FIELD] = key;
-    table[at + LEFT_FIELD] = left;
-    table[at + RIGHT_FIELD] = right;
-    table[at + LEADER_FIELD] = leader;
-    table[at + RANK_FIELD] = rank;
-    table[at + COUNT_FIELD] = count;
-}
-
-// Write the slot that a position is in, from word `at` on.
-fn emit_slot(
+// The words of the slot that a position is in; zeros at position 0.
+fn slot_at(
     keys: &[u64],
     left: &[u16],
     right: &[u16],
@@ -60,23 +48,46 @@ fn emit_slot(
     rank: &[u16],
     count: &[u16],
     position: usize,
-    table: &mut [u64],
-    at: usize,
-)
+) -> Slot
     requires { ⌜ Linked (now keys) (record { left = now left; right = now right; leader = now leader; rank = now rank; count = now count }) ⌝ }
-    requires { ⌜ (position ≤ length (now keys)) × (at + slotWords ≤ length (now table)) ⌝ }
-    ensures { λ _. ⌜ now (table .exit) ≡ overwrite (now (table .entry)) at (slotAt (now (keys .entry)) (record { left = now (left .entry); right = now (right .entry); leader = now (leader .entry); rank = now (rank .entry); count = now (count .entry) }) position) ⌝ }
+    requires { ⌜ position ≤ length (now keys) ⌝ }
+    ensures { λ r. ⌜ wordsIn r ≡ slotAt (now (keys .entry)) (record { left = now (left .entry); right = now (right .entry); leader = now (leader .entry); rank = now (rank .entry); count = now (count .entry) }) position ⌝ }
 {
     if position == 0 {
-        write_slot(table, at, 0, 0, 0, 0, 0, 0);
-        return;
+        return Slot {
+            key: 0,
+            left: 0,
+            right: 0,
+            leader: 0,
+            rank: 0,
+            count: 0,
+        };
     }
     let i = position - 1;
-    let key = keys[i];
     let l = key_at(keys, left[i] as usize);
     let r = key_at(keys, right[i] as usize);
     let d = key_at(keys, leader[i] as usize);
-    write_slot(table, at, key, l, r, d, rank[i] as u64, count[i] as u64);
+    Slot {
+        key: keys[i],
+        left: l,
+        right: r,
+        leader: d,
+        rank: rank[i] as u64,
+        count: count[i] as u64,
+    }
+}
+
+// Write the words of a slot, from word `at` on.
+fn write_slot(table: &mut [u64], at: usize, slot: Slot)
+    requires { ⌜ at + slotWords ≤ length (now table) ⌝ }
+    ensures { λ _. ⌜ now (table .exit) ≡ overwrite (now (table .entry)) at (wordsIn slot) ⌝ }
+{
+    table[at + KEY_FIELD] = slot.key;
+    table[at + LEFT_FIELD] = slot.left;
+    table[at + RIGHT_FIELD] = slot.right;
+    table[at + LEADER_FIELD] = slot.leader;
+    table[at + RANK_FIELD] = slot.rank;
+    table[at + COUNT_FIELD] = slot.count;
 }
 
 // Write the words of the table: the header, then each slot. Internal to this library's crates.
@@ -101,77 +112,32 @@ pub fn emit(
     table[SIZE_WORD] = keys.len() as u64;
     table[ROOT_WORD] = key_at(keys, root);
     for s in 0..slots.len() {
-        emit_slot(
-            keys,
-            left,
-            right,
-            leader,
-            rank,
-            count,
-            slots[s] as usize,
-            table,
-            HEADER_WORDS + SLOT_WORDS * s,
-        );
+        let slot = slot_at(keys, left, right, leader, rank, count, slots[s] as usize);
+        write_slot(table, HEADER_WORDS + SLOT_WORDS * s, slot);
     }
 }
 
-// Whether the six words from word `at` on are these.
-fn slot_is(
-    table: &[u64],
-    at: usize,
-    key: u64,
-    left: u64,
-    right: u64,
-    leader: u64,
-    rank: u64,
-    count: u64,
-) -> bool
+// Whether the words from word `at` on are those of a slot.
+fn slot_is(table: &[u64], at: usize, slot: Slot) -> bool
     requires { ⌜ at + slotWords ≤ length (now table) ⌝ }
-    ensures { λ r. ⌜ r ≡ same (take slotWords (drop at (now (table .entry)))) (key ∷ left ∷ right ∷ leader ∷ rank ∷ count ∷ []) ⌝ }
+    ensures { λ r. ⌜ r ≡ same (take slotWords (drop at (now (table .entry)))) (wordsIn slot) ⌝ }
 {
-    if table[at + KEY_FIELD] != key {
+    if table[at + KEY_FIELD] != slot.key {
         return false;
     }
-    if table[at + LEFT_FIELD] != left {
+    if table[at + LEFT_FIELD] != slot.left {
         return false;
     }
-    if table[at + RIGHT_FIELD] != right {
+    if table[at + RIGHT_FIELD] != slot.right {
         return false;
     }
-    if table[at + LEADER_FIELD] != leader {
+    if table[at + LEADER_FIELD] != slot.leader {
         return false;
     }
-    if table[at + RANK_FIELD] != rank {
+    if table[at + RANK_FIELD] != slot.rank {
         return false;
     }
-    table[at + COUNT_FIELD] == count
-}
-
-// Whether the slot from word `at` on is the one that a position is in.
-fn slot_matches(
-    keys: &[u64],
-    left: &[u16],
-    right: &[u16],
-    leader: &[u16],
-    rank: &[u16],
-    count: &[u16],
-    position: usize,
-    table: &[u64],
-    at: usize,
-) -> bool
-    requires { ⌜ Linked (now keys) (record { left = now left; right = now right; leader = now leader; rank = now rank; count = now count }) ⌝ }
-    requires { ⌜ (position ≤ length (now keys)) × (at + slotWords ≤ length (now table)) ⌝ }
-    ensures { λ r. ⌜ r ≡ same (take slotWords (drop at (now (table .entry)))) (slotAt (now (keys .entry)) (record { left = now (left .entry); right = now (right .entry); leader = now (leader .entry); rank = now (rank .entry); count = now (count .entry) }) position) ⌝ }
-{
-    if position == 0 {
-        return slot_is(table, at, 0, 0, 0, 0, 0, 0);
-    }
-    let i = position - 1;
-    let key = keys[i];
-    let l = key_at(keys, left[i] as usize);
-    let r = key_at(keys, right[i] as usize);
-    let d = key_at(keys, leader[i] as usize);
-    slot_is(table, at, key, l, r, d, rank[i] as u64, count[i] as u64)
+    table[at + COUNT_FIELD] == slot.count
 }
 
 // Whether the table has exactly the words that `emit` would write. Internal to this library's crates.
@@ -202,17 +168,8 @@ pub fn matches(
         return false;
     }
     for s in 0..slots.len() {
-        if !slot_matches(
-            keys,
-            left,
-            right,
-            leader,
-            rank,
-            count,
-            slots[s] as usize,
-            table,
-            HEADER_WORDS + SLOT_WORDS * s,
-        ) {
+        let slot = slot_at(keys, left, right, leader, rank, count, slots[s] as usize);
+        if !slot_is(table, HEADER_WORDS + SLOT_WORDS * s, slot) {
             return false;
         }
     }

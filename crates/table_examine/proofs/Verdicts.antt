@@ -1,7 +1,7 @@
 -- What the tests of examining say of the verdict. Assumes nothing.
 use mathlib.Core.Bool.{Bool, true, false, cond}
 use mathlib.Core.List.{List}
-use mathlib.Core.Path.{_≡_, refl, sym, ap, ap₂, _∙_}
+use mathlib.Core.Path.{_≡_, refl, sym, ap, _∙_}
 use Prim.Native.Nat.{ℕ, _≤_}
 use native.Mathlib.Omega.{arith}
 use lib.ListN.{length, getD, take}
@@ -9,7 +9,7 @@ use Rattle.lists.specs.Lists.{lies, risesB, same, overwrite}
 use Rattle.lists.proofs.Rising.{rises-says}
 use Rattle.lists.proofs.Start.{starts-with}
 use Rattle.table.specs.Layout.{mostSlots, leastOrder, greatestOrder, orderWord}
-use Rattle.table.specs.Contents.{Contents, tableOrder}
+use Rattle.table.specs.Contents.{tableOrder}
 use Rattle.table.specs.Table.{fresh, contentsOf}
 use Rattle.table.specs.Sound.{soundWith}
 use Rattle.table.proofs.Soundness.{shown-fit, shown-nonzero}
@@ -85,8 +85,7 @@ module _ (many : ℕ) (words : List ℕ) where
       writable (getD words orderWord 0) (contentsOf many words .keys) right (rises-says (contentsOf many words .keys) e) (shown-nonzero many words)
       (omega (arith, shown-fit many words))
 
-  pub compared : (order : ℕ) (keys : List ℕ) (slots : ℕ) → order ≡ getD words orderWord 0 → keys ≡ contentsOf many words .keys → slots ≡ many
-      → same words (fresh slots (record { order = order; keys = keys })) ≡ same words (fresh many (contentsOf many words))
+  pub compared : (keys : List ℕ) → keys ≡ contentsOf many words .keys
+      → same words (fresh many (record { order = getD words orderWord 0; keys = keys })) ≡ same words (fresh many (contentsOf many words))
   unfolding contentsOf
-  compared order keys slots e f g =
-      ap₂ (λ (m : ℕ) (c : Contents). same words (fresh m c)) g (λ i. record { order = e i; keys = f i })
+  compared keys e = ap (λ (ks : List ℕ). same words (fresh many (record { order = getD words orderWord 0; keys = ks }))) e

@@ -1,6 +1,6 @@
 -- The search for the slot of a key, from a number on: where it stops, and its answer. Assumes nothing.
 use mathlib.Core.Bool.{Bool, cond, _||_}
-use mathlib.Core.List.{List, [], _∷_}
+use mathlib.Core.List.{List}
 use mathlib.Core.Path.{_≡_}
 use Prim.Native.Nat.{ℕ, _-_, _<_}
 use lib.Dec.{eqb, ltb}
@@ -28,14 +28,10 @@ foundAt many slot = cond (ltb slot many) (At slot) Nowhere
 abbrev pub searched : ℕ → List ℕ → ℕ → ℕ → Found
 searched many words key priority = foundAt many (slotFound many words key priority)
 
--- The first of these slots that passes the test.
-abbrev pub firstOf : (ℕ → Bool) → List ℕ → Found
-firstOf f [] = Nowhere
-firstOf f (slot ∷ slots) = cond (f slot) (At slot) (firstOf f slots)
-
--- Of the slots from one up to another, that one left out, the first that is empty or holds the key.
+-- Of the slots from one up to another, that one left out, the first that is empty or holds the key; only the contract of the inner
+-- function `scan` cites it.
 abbrev pub scanned : List ℕ → ℕ → ℕ → ℕ → Found
-scanned words low high key = firstOf (stopsAt words key) (upFrom low (high - low))
+scanned words low high key = foundAt high (first high (stopsAt words key) (upFrom low (high - low)))
 
 -- The slot, of so many, holds the key, and no other does: it is the key's slot.
 pub record OnlyAt (many : ℕ) (words : List ℕ) (key slot : ℕ) : Type 0 where

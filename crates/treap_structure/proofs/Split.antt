@@ -1,22 +1,22 @@
 -- The key that outranks the rest is the only one that does, and the treap splits at it into those of the parts before and
 -- after. Assumes nothing.
-use mathlib.Core.Bool.{Bool, true, false, cond, _||_}
+use mathlib.Core.Bool.{true, false, _||_}
 use mathlib.Core.List.{List, [], _∷_, _++_}
-use mathlib.Core.Logic.{_⊎_, _≢_, inl, inr, ⊎-elim}
+use mathlib.Core.Logic.{_⊎_, _≢_, ⊎-elim}
 use mathlib.Core.Path.{_≡_, refl, sym, ap, ap₂, _∙_, subst}
-use Prim.Native.Nat.{ℕ, zero, suc, _+_, _<_, _≤_}
+use Prim.Native.Nat.{ℕ, zero, suc, _+_, _<_}
 use native.Mathlib.Omega.{arith}
-use lib.Dec.{eqb, ltb}
+use lib.Dec.{eqb}
 use lib.ListN.{length}
-use borrow.Author.Tests.{eqb-true, ltb-true, ltb-false}
+use borrow.Author.Tests.{eqb-true}
 use Rattle.lists.specs.Lists.{member, All, Rising}
-use Rattle.lists.proofs.Tests.{by-test, true-or-false, or-true-cases, or-true-left, or-true-right}
-use Rattle.lists.proofs.Keep.{all-map, all-both, all-append, all-append-left, all-append-right}
-use Rattle.lists.proofs.Membership.{eqb-same, all-member, member-append}
+use Rattle.lists.proofs.Tests.{true-or-false, or-true-cases}
+use Rattle.lists.proofs.Keep.{all-map, all-both, all-append-left, all-append-right}
+use Rattle.lists.proofs.Membership.{all-member}
 use Rattle.lists.proofs.Pairwise.{pairwise-append-left, pairwise-append-right, pairwise-before}
 use Rattle.treap.specs.Treap.{Tree, keys, rootKey, outranks, top, treap}
 use Rattle.treap.specs.Treap.Tree.{leaf, node}
-use Rattle.treap_structure.proofs.Outranking.{Outranks, outranks-one-way, outranks-trans, outranks-when}
+use Rattle.treap_structure.proofs.Outranking.{outranks-one-way}
 use Rattle.treap_structure.proofs.Shape.{Lesser, Greater, Good, top-member, top-outranks, top-of-good, treap-unique, treap-keys, treap-good}
 
 module _ (p : ℕ → ℕ) where
@@ -76,35 +76,3 @@ module _ (p : ℕ → ℕ) where
   unfolding top
   top-tops [] = tt
   top-tops (k ∷ ks) = top-outranks p k ks
-
-  -- one greater key more at the end takes the place of the top only by a higher priority
-  pub top-end : (xs : List ℕ) (y : ℕ) → 0 < length xs → All (λ x. x < y) xs → top p (xs ++ (y ∷ [])) ≡ cond (ltb (p (top p xs)) (p y)) y (top p xs)
-  unfolding Outranks
-  top-end [] y h low = absurd (omega arith)
-  top-end (k ∷ ks) y h low =
-      let m = top p (k ∷ ks) in
-      let below : m < y = all-member (λ x. x < y) (k ∷ ks) m low (top-member p k ks) in
-      let tops = top-outranks p k ks in
-      by-test (ltb (p m) (p y))
-      (λ e.
-      rw e
-      (top-unique ((k ∷ ks) ++ (y ∷ [])) y (member-append y (k ∷ ks) (y ∷ []) ∙ or-true-right (member y (k ∷ ks)) (eqb y y || false) (or-true-left (eqb y y) false (eqb-same y)))
-      (all-append (λ x. (eqb x y || outranks p y x) ≡ true) (k ∷ ks) (y ∷ [])
-      (all-map (λ x. (eqb x m || outranks p m x) ≡ true) (λ x. (eqb x y || outranks p y x) ≡ true)
-      (λ x q. or-true-right (eqb x y) (outranks p y x) (climb m y x (outranks-when p y m (higher m y (ltb-true (p m) (p y) e))) q)) (k ∷ ks) tops)
-      (or-true-left (eqb y y) (outranks p y y) (eqb-same y), tt))))
-      (λ e.
-      rw e
-      (top-unique ((k ∷ ks) ++ (y ∷ [])) m (member-append m (k ∷ ks) (y ∷ []) ∙ or-true-left (member m (k ∷ ks)) (member m (y ∷ [])) (top-member p k ks))
-      (all-append (λ x. (eqb x m || outranks p m x) ≡ true) (k ∷ ks) (y ∷ []) tops
-      (or-true-right (eqb y m) (outranks p m y) (outranks-when p m y (not-higher m y below (ltb-false (p m) (p y) e))), tt))))
-    where
-      higher : (m z : ℕ) → p m < p z → Outranks p z m
-      higher m z l = inl l
-
-      not-higher : (m z : ℕ) → m < z → p z ≤ p m → Outranks p m z
-      not-higher m z l n = by-test (ltb (p z) (p m)) (λ e. inl (ltb-true (p z) (p m) e)) (λ e. let f = ltb-false (p z) (p m) e in inr (omega arith, l))
-
-      climb : (m z x : ℕ) → outranks p z m ≡ true → (eqb x m || outranks p m x) ≡ true → outranks p z x ≡ true
-      climb m z x o q =
-          ⊎-elim (λ i. subst (λ (w : ℕ). outranks p z w ≡ true) (sym (eqb-true x m i)) o) (λ i. outranks-trans p z m x o i) (or-true-cases (eqb x m) (outranks p m x) q)

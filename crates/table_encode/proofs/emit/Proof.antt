@@ -5,17 +5,19 @@ use native.Mathlib.Numerals.{add-one}
 use Prim.Native.Nat.{ℕ, _≤_, _-_, _+_}
 use native.Mathlib.Omega.{arith}
 use lib.ListN.{length, set, length-set}
+use Rattle.lists.specs.Lists.{overwrite}
 use Rattle.lists.proofs.Keep.{all-at}
-use Rattle.table.specs.Layout.{tableWords}
-use Rattle.table_encode.specs.Encode.{slotAt, wordsOf}
+use Rattle.table.specs.Layout.{slotStart, tableWords}
+use Rattle.table_encode.specs.Encode.{Columns, slotAt, wordsOf}
 use Rattle.table_encode.proofs.Emitting.{Emitted, emitted-start, emitted-next, emitted-end, header-stores}
 use borrow.Author.Needs.{needs}
 use Rattle.table_encode.proofs.emit.Statement.{statement}
 use Rattle.table_encode.proofs.emit.Tie as tie
 use Rattle.table_encode.proofs.emit.Reads as reads
 use Rattle.table_encode.proofs.emit.Lts as lts
-use Rattle.table_encode.proofs.emit_slot.Reads as emit-slot-reads
 use Rattle.table_encode.proofs.key_at.Reads as key-at-reads
+use Rattle.table_encode.proofs.slot_at.Reads as slot-at-reads
+use Rattle.table_encode.proofs.write_slot.Reads as write-slot-reads
 
 abbrev Inv-loop : tie.InvT-loop
 Inv-loop order keys root left right leader rank count slots table₀ s₀ s-end table s =
@@ -43,43 +45,48 @@ slice-write-table-3 c = simp length-set (omega arith)
 loop-holds : tie.Need-loop-holds Inv-loop μ-loop
 loop-holds c = (refl, emitted-start _ _ _ _ (start-long c))
 
-mul-emit-slot : tie.Need-mul-emit-slot Inv-loop μ-loop
-mul-emit-slot c = search needs
+mul-slot-at : tie.Need-mul-slot-at Inv-loop μ-loop
+mul-slot-at c = search needs
 
-shared-slice-read-emit-slot : tie.Need-shared-slice-read-emit-slot Inv-loop μ-loop
-shared-slice-read-emit-slot c = search needs
+shared-slice-read-slot-at : tie.Need-shared-slice-read-slot-at Inv-loop μ-loop
+shared-slice-read-slot-at c = search needs
 
-cast-emit-slot : tie.Need-cast-emit-slot Inv-loop μ-loop
-cast-emit-slot c = omega (arith, c .shared-slice-known8 .given (c .before .before .loop .s))
+cast-slot-at : tie.Need-cast-slot-at Inv-loop μ-loop
+cast-slot-at c = omega (arith, c .shared-slice-known8 .given (c .before .before .loop .s))
 
-mul-emit-slot-2 : tie.Need-mul-emit-slot-2 Inv-loop μ-loop
-mul-emit-slot-2 c = let long = c .before .before .before .before .before .before .before .before .before .before .before .before .before .pre .1 .1 in omega arith
+slot-at-requires : tie.Need-slot-at-requires Inv-loop μ-loop
+slot-at-requires c κs =
+    let start = c .before .before .before .before .before .before .before .before .before .before .before .before in
+    (start .pre .0, all-at (λ i. i ≤ length (start .args .keys .now)) (start .args .slots .now) (c .before .before .loop .s) 0 (start .pre .1 .0 .1) (omega arith))
 
-add-emit-slot : tie.Need-add-emit-slot Inv-loop μ-loop
-add-emit-slot c = let long = c .before .before .before .before .before .before .before .before .before .before .before .before .before .pre .1 .1 in omega arith
+mul-write-slot : tie.Need-mul-write-slot Inv-loop μ-loop
+mul-write-slot c = let start = c .before .before .before .before .before .before .before .before .before .before .before .before .before .before in omega (arith, c .before .before .before .loop-test .taken, c .before .before .before .before .loop .inv .0, start .fits, start .pre .1 .1)
 
-emit-slot-requires : tie.Need-emit-slot-requires Inv-loop μ-loop
-emit-slot-requires c κs =
-    let start = c .before .before .before .before .before .before .before .before .before .before .before .before .before in
-    let loop = c .before .before .before .loop in
-    let size = loop .inv .1 .size ∙ start-long (c .before .before .before .before) in
-    (start .pre .0, (all-at (λ i. i ≤ length (start .args .keys .now)) (start .args .slots .now) (loop .s) 0 (start .pre .1 .0 .1) (omega arith), omega arith))
+add-write-slot : tie.Need-add-write-slot Inv-loop μ-loop
+add-write-slot c = let start = c .before .before .before .before .before .before .before .before .before .before .before .before .before .before in omega (arith, c .before .before .before .loop-test .taken, c .before .before .before .before .loop .inv .0, start .fits, start .pre .1 .1)
+
+write-slot-requires : tie.Need-write-slot-requires Inv-loop μ-loop
+write-slot-requires c κs =
+    let size = c .before .before .before .before .loop .inv .1 .size ∙ start-long (c .before .before .before .before .before) in
+    omega arith
 
 add-s : tie.Need-add-s Inv-loop μ-loop
-add-s c = search needs
+add-s c = let start = c .before .before .before .before .before .before .before .before .before .before .before .before .before .before .before .before .before in omega (arith, c .before .before .before .before .before .before .loop-test .taken, c .before .before .before .before .before .before .before .loop .inv .0, start .fits, start .pre .1 .1)
 
 loop-less : tie.Need-loop-less Inv-loop μ-loop
 loop-less c = search needs
 
 loop-again : tie.Need-loop-again Inv-loop μ-loop
 loop-again c =
-    let args = c .before .before .before .before .before .before .before .before .before .before .before .before .before .before .before .before .args in
-    let loop = c .before .before .before .before .before .before .loop in
-    let begin = c .before .before .before .before .before .before .before in (
+    let args = c .before .before .before .before .before .before .before .before .before .before .before .before .before .before .before .before .before .args in
+    let loop = c .before .before .before .before .before .before .before .loop in
+    let begin = c .before .before .before .before .before .before .before .before in
+    let columns : Columns = record { left = args .left .now; right = args .right .now; leader = args .leader .now; rank = args .rank .now; count = args .count .now } in
+    let lent = set (set (set (args .table .now) 0 (args .order)) 1 (length (args .keys .now))) 2 (begin .key-at .result) in (
       refl,
-      subst₂ (Emitted (args .keys .now) (record { left = args .left .now; right = args .right .now; leader = args .leader .now; rank = args .rank .now; count = args .count .now }) (args .slots .now) (set (set (set (args .table .now) 0 (args .order)) 1 (length (args .keys .now))) 2 (begin .key-at .result)))
-          (sym (c .before .before .emit-slot .ensures)) (sym (add-one (loop .s)))
-          (emitted-next (args .keys .now) (record { left = args .left .now; right = args .right .now; leader = args .leader .now; rank = args .rank .now; count = args .count .now }) (args .slots .now) (set (set (set (args .table .now) 0 (args .order)) 1 (length (args .keys .now))) 2 (begin .key-at .result)) (start-long begin) (loop .table) (loop .s) (loop .inv .1) (omega arith)),
+      subst₂ (Emitted (args .keys .now) columns (args .slots .now) lent)
+          (sym (c .before .before .write-slot .ensures ∙ ap (overwrite (loop .table) (slotStart (loop .s))) (c .before .before .before .before .slot-at .ensures))) (sym (add-one (loop .s)))
+          (emitted-next (args .keys .now) columns (args .slots .now) lent (start-long begin) (loop .table) (loop .s) (loop .inv .1) (omega arith)),
     )
 
 same-length : tie.Need-same-length Inv-loop μ-loop
@@ -107,12 +114,13 @@ emit-spec =
     key-at-requires
     slice-write-table-3
     loop-holds
-    mul-emit-slot
-    shared-slice-read-emit-slot
-    cast-emit-slot
-    mul-emit-slot-2
-    add-emit-slot
-    emit-slot-requires
+    mul-slot-at
+    shared-slice-read-slot-at
+    cast-slot-at
+    slot-at-requires
+    mul-write-slot
+    add-write-slot
+    write-slot-requires
     add-s
     loop-less
     loop-again

@@ -1,12 +1,14 @@
 -- `table_encode::matches` meets its contract. The loop's invariant: the words before slot s are those of the columns. Assumes nothing.
-use mathlib.Core.Path.{_≡_, refl, sym, _∙_, subst}
+use mathlib.Core.Path.{_≡_, refl, sym, ap, _∙_, subst}
 use Prim.Native.Nat.{_≤_, _-_}
 use native.Mathlib.Numerals.{add-one}
 use native.Mathlib.Omega.{arith}
-use lib.ListN.{length}
+use lib.ListN.{length, getD, take, drop}
 use borrow.Author.Tests.{not-true, not-false}
+use Rattle.lists.specs.Lists.{same}
 use Rattle.lists.proofs.Keep.{all-at}
-use Rattle.table_encode.specs.Encode.{wordsOf}
+use Rattle.table.specs.Layout.{slotWords, slotStart}
+use Rattle.table_encode.specs.Encode.{Columns, slotAt, wordsOf}
 use Rattle.table_encode.proofs.Matching.{Matched, matched-start, matched-next, matched-end, slot-differs, word-differs}
 use borrow.Author.Needs.{needs}
 use Rattle.table_encode.proofs.matches.Statement.{statement}
@@ -14,7 +16,8 @@ use Rattle.table_encode.proofs.matches.Tie as tie
 use Rattle.table_encode.proofs.matches.Reads as reads
 use Rattle.table_encode.proofs.matches.Lts as lts
 use Rattle.table_encode.proofs.key_at.Reads as key-at-reads
-use Rattle.table_encode.proofs.slot_matches.Reads as slot-matches-reads
+use Rattle.table_encode.proofs.slot_at.Reads as slot-at-reads
+use Rattle.table_encode.proofs.slot_is.Reads as slot-is-reads
 
 abbrev Inv-loop : tie.InvT-loop
 Inv-loop order keys root left right leader rank count slots table s₀ s-end s =
@@ -66,47 +69,63 @@ loop-holds c =
     let long = start .pre .1 .1 in
     (refl, matched-start (args .order) (args .keys .now) (args .root) (record { left = args .left .now; right = args .right .now; leader = args .leader .now; rank = args .rank .now; count = args .count .now }) (args .slots .now) (args .table .now) long (c .before .before .before .before .before .if1 .left) (c .before .before .before .if2 .left) (c .if3 .left ∙ c .before .key-at .ensures))
 
-mul-slot-matches : tie.Need-mul-slot-matches Inv-loop μ-loop
-mul-slot-matches c = search needs
+mul-slot-at : tie.Need-mul-slot-at Inv-loop μ-loop
+mul-slot-at c = search needs
 
-shared-slice-read-slot-matches : tie.Need-shared-slice-read-slot-matches Inv-loop μ-loop
-shared-slice-read-slot-matches c = search needs
+shared-slice-read-slot-at : tie.Need-shared-slice-read-slot-at Inv-loop μ-loop
+shared-slice-read-slot-at c = search needs
 
-cast-slot-matches : tie.Need-cast-slot-matches Inv-loop μ-loop
-cast-slot-matches c = omega (arith, c .shared-slice-known12 .given (c .before .before .loop .s))
+cast-slot-at : tie.Need-cast-slot-at Inv-loop μ-loop
+cast-slot-at c = omega (arith, c .shared-slice-known12 .given (c .before .before .loop .s))
 
-mul-slot-matches-2 : tie.Need-mul-slot-matches-2 Inv-loop μ-loop
-mul-slot-matches-2 c = let long = c .before .before .before .before .before .before .before .before .before .before .before .before .before .before .before .before .before .before .pre .1 .1 in omega arith
-
-add-slot-matches : tie.Need-add-slot-matches Inv-loop μ-loop
-add-slot-matches c = let long = c .before .before .before .before .before .before .before .before .before .before .before .before .before .before .before .before .before .before .pre .1 .1 in omega arith
-
-slot-matches-requires : tie.Need-slot-matches-requires Inv-loop μ-loop
-slot-matches-requires c κs =
+slot-at-requires : tie.Need-slot-at-requires Inv-loop μ-loop
+slot-at-requires c κs =
     let start = c .before .before .before .before .before .before .before .before .before .before .before .before .before .before .before .before .before .before in
-    let args = start .args in
-    let long = start .pre .1 .1 in
-    (start .pre .0, (all-at (λ i. i ≤ length (args .keys .now)) (args .slots .now) (c .before .before .loop .s) 0 (start .pre .1 .0 .1) (omega arith), omega arith))
+    (start .pre .0, all-at (λ i. i ≤ length (start .args .keys .now)) (start .args .slots .now) (c .before .before .loop .s) 0 (start .pre .1 .0 .1) (omega arith))
+
+mul-slot-is : tie.Need-mul-slot-is Inv-loop μ-loop
+mul-slot-is c = let start = c .before .before .before .before .before .before .before .before .before .before .before .before .before .before .before .before .before .before .before in omega (arith, c .before .before .loop-test .taken, c .before .before .before .loop .inv .0, start .fits, start .pre .1 .1)
+
+add-slot-is : tie.Need-add-slot-is Inv-loop μ-loop
+add-slot-is c = let start = c .before .before .before .before .before .before .before .before .before .before .before .before .before .before .before .before .before .before .before in omega (arith, c .before .before .loop-test .taken, c .before .before .before .loop .inv .0, start .fits, start .pre .1 .1)
+
+slot-is-requires : tie.Need-slot-is-requires Inv-loop μ-loop
+slot-is-requires c κs = let long = c .before .before .before .before .before .before .before .before .before .before .before .before .before .before .before .before .before .before .before .pre .1 .1 in omega arith
+
+-- what comparing a slot's words with the columns' told
+told : (c : tie.After-slot-is Inv-loop μ-loop) →
+    let args = c .before .before .before .before .before .before .before .before .before .before .before .before .before .before .before .before .before .before .before .before .args in
+    let s = c .before .before .before .before .loop .s in
+    same (take slotWords (drop (slotStart s) (args .table .now))) (slotAt (args .keys .now) (record { left = args .left .now; right = args .right .now; leader = args .leader .now; rank = args .rank .now; count = args .count .now }) (getD (args .slots .now) s 0)) ≡ c .slot-is .result
+told c =
+    let args = c .before .before .before .before .before .before .before .before .before .before .before .before .before .before .before .before .before .before .before .before .args in
+    ap (same (take slotWords (drop (slotStart (c .before .before .before .before .loop .s)) (args .table .now)))) (sym (c .before .slot-at .ensures)) ∙ sym (c .slot-is .ensures)
 
 returns-4 : tie.Need-returns-4 Inv-loop μ-loop
 returns-4 c =
-    let start = c .before .before .before .before .before .before .before .before .before .before .before .before .before .before .before .before .before .before .before .before in
+    let start = c .before .before .before .before .before .before .before .before .before .before .before .before .before .before .before .before .before .before .before .before .before in
     let args = start .args in
     let long = start .pre .1 .1 in
-    slot-differs (args .order) (args .keys .now) (args .root) (record { left = args .left .now; right = args .right .now; leader = args .leader .now; rank = args .rank .now; count = args .count .now }) (args .slots .now) (args .table .now) (c .before .before .before .before .loop .s) (omega arith) (sym (c .before .slot-matches .ensures) ∙ not-true (c .before .slot-matches .result) (c .if4 .taken))
+    slot-differs (args .order) (args .keys .now) (args .root) (record { left = args .left .now; right = args .right .now; leader = args .leader .now; rank = args .rank .now; count = args .count .now }) (args .slots .now) (args .table .now) (c .before .before .before .before .before .loop .s) (omega arith) (told (c .before) ∙ not-true (c .before .slot-is .result) (c .if4 .taken))
 
 add-s : tie.Need-add-s Inv-loop μ-loop
-add-s c = search needs
+add-s c = let start = c .before .before .before .before .before .before .before .before .before .before .before .before .before .before .before .before .before .before .before .before .before in omega (arith, c .before .before .before .before .loop-test .taken, c .before .before .before .before .before .loop .inv .0, start .fits, start .pre .1 .1)
 
 loop-less : tie.Need-loop-less Inv-loop μ-loop
 loop-less c = search needs
 
 loop-again : tie.Need-loop-again Inv-loop μ-loop
 loop-again c =
-    let start = c .before .before .before .before .before .before .before .before .before .before .before .before .before .before .before .before .before .before .before .before in
+    let start = c .before .before .before .before .before .before .before .before .before .before .before .before .before .before .before .before .before .before .before .before .before in
     let args = start .args in
+    let loop = c .before .before .before .before .before .loop in
     let long = start .pre .1 .1 in
-    (refl, subst (Matched (args .order) (args .keys .now) (args .root) (record { left = args .left .now; right = args .right .now; leader = args .leader .now; rank = args .rank .now; count = args .count .now }) (args .slots .now) (args .table .now)) (sym (add-one (c .before .before .before .before .loop .s))) (matched-next (args .order) (args .keys .now) (args .root) (record { left = args .left .now; right = args .right .now; leader = args .leader .now; rank = args .rank .now; count = args .count .now }) (args .slots .now) (args .table .now) (c .before .before .before .before .loop .s) (c .before .before .before .before .loop .inv .1) (omega arith) long (sym (c .before .slot-matches .ensures) ∙ not-false (c .before .slot-matches .result) (c .if4 .left))))
+    let columns : Columns = record { left = args .left .now; right = args .right .now; leader = args .leader .now; rank = args .rank .now; count = args .count .now } in (
+      refl,
+      subst (Matched (args .order) (args .keys .now) (args .root) columns (args .slots .now) (args .table .now)) (sym (add-one (loop .s)))
+          (matched-next (args .order) (args .keys .now) (args .root) columns (args .slots .now) (args .table .now) (loop .s) (loop .inv .1) (omega arith) long
+          (told (c .before) ∙ not-false (c .before .slot-is .result) (c .if4 .left))),
+    )
 
 returns-5 : tie.Need-returns-5 Inv-loop μ-loop
 returns-5 c =
@@ -129,12 +148,13 @@ matches-spec =
     key-at-requires
     returns-3
     loop-holds
-    mul-slot-matches
-    shared-slice-read-slot-matches
-    cast-slot-matches
-    mul-slot-matches-2
-    add-slot-matches
-    slot-matches-requires
+    mul-slot-at
+    shared-slice-read-slot-at
+    cast-slot-at
+    slot-at-requires
+    mul-slot-is
+    add-slot-is
+    slot-is-requires
     returns-4
     add-s
     loop-less

@@ -22,9 +22,9 @@ shared-slice-read-if1 c = search needs
 
 returns : tie.Need-returns
 returns c =
-    let start = c .before .before in
+    let start = c .before .before .before in
     let a = start .args in
-    sym (same-six (a .table .now) (a .at) (a .key) (a .left) (a .right) (a .leader) (a .rank) (a .count) (start .pre) ∙ rw (ne-eqb (getD (a .table .now) (a .at + keyField) 0) (a .key) (c .if1 .taken)))
+    sym (same-six (a .table .now) (a .at) (a .slot .key) (a .slot .left) (a .slot .right) (a .slot .leader) (a .slot .rank) (a .slot .count) (start .pre) ∙ rw (ne-eqb (getD (a .table .now) (a .at + keyField) 0) (a .slot .key) (c .if1 .taken)))
 
 add-if2 : tie.Need-add-if2
 add-if2 c = search needs
@@ -37,9 +37,9 @@ shared-slice-read-if2 c = search needs
 
 returns-2 : tie.Need-returns-2
 returns-2 c =
-    let start = c .before .before .before .before in
+    let start = c .before .before .before .before .before .before in
     let a = start .args in
-    sym (same-six (a .table .now) (a .at) (a .key) (a .left) (a .right) (a .leader) (a .rank) (a .count) (start .pre) ∙ rw (eq-eqb (getD (a .table .now) (a .at + keyField) 0) (a .key) (c .before .before .if1 .left), ne-eqb (getD (a .table .now) (a .at + leftField) 0) (a .left) (c .if2 .taken)))
+    sym (same-six (a .table .now) (a .at) (a .slot .key) (a .slot .left) (a .slot .right) (a .slot .leader) (a .slot .rank) (a .slot .count) (start .pre) ∙ rw (eq-eqb (getD (a .table .now) (a .at + keyField) 0) (a .slot .key) (c .before .before .before .if1 .left), ne-eqb (getD (a .table .now) (a .at + leftField) 0) (a .slot .left) (c .if2 .taken)))
 
 add-if3 : tie.Need-add-if3
 add-if3 c = search needs
@@ -52,9 +52,9 @@ shared-slice-read-if3 c = search needs
 
 returns-3 : tie.Need-returns-3
 returns-3 c =
-    let start = c .before .before .before .before .before .before in
+    let start = c .before .before .before .before .before .before .before .before .before in
     let a = start .args in
-    sym (same-six (a .table .now) (a .at) (a .key) (a .left) (a .right) (a .leader) (a .rank) (a .count) (start .pre) ∙ rw (eq-eqb (getD (a .table .now) (a .at + keyField) 0) (a .key) (c .before .before .before .before .if1 .left), eq-eqb (getD (a .table .now) (a .at + leftField) 0) (a .left) (c .before .before .if2 .left), ne-eqb (getD (a .table .now) (a .at + rightField) 0) (a .right) (c .if3 .taken)))
+    sym (same-six (a .table .now) (a .at) (a .slot .key) (a .slot .left) (a .slot .right) (a .slot .leader) (a .slot .rank) (a .slot .count) (start .pre) ∙ rw (eq-eqb (getD (a .table .now) (a .at + keyField) 0) (a .slot .key) (c .before .before .before .before .before .before .if1 .left), eq-eqb (getD (a .table .now) (a .at + leftField) 0) (a .slot .left) (c .before .before .before .if2 .left), ne-eqb (getD (a .table .now) (a .at + rightField) 0) (a .slot .right) (c .if3 .taken)))
 
 add-if4 : tie.Need-add-if4
 add-if4 c = search needs
@@ -67,9 +67,9 @@ shared-slice-read-if4 c = search needs
 
 returns-4 : tie.Need-returns-4
 returns-4 c =
-    let start = c .before .before .before .before .before .before .before .before in
+    let start = c .before .before .before .before .before .before .before .before .before .before .before .before in
     let a = start .args in
-    sym (same-six (a .table .now) (a .at) (a .key) (a .left) (a .right) (a .leader) (a .rank) (a .count) (start .pre) ∙ rw (eq-eqb (getD (a .table .now) (a .at + keyField) 0) (a .key) (c .before .before .before .before .before .before .if1 .left), eq-eqb (getD (a .table .now) (a .at + leftField) 0) (a .left) (c .before .before .before .before .if2 .left), eq-eqb (getD (a .table .now) (a .at + rightField) 0) (a .right) (c .before .before .if3 .left), ne-eqb (getD (a .table .now) (a .at + leaderField) 0) (a .leader) (c .if4 .taken)))
+    sym (same-six (a .table .now) (a .at) (a .slot .key) (a .slot .left) (a .slot .right) (a .slot .leader) (a .slot .rank) (a .slot .count) (start .pre) ∙ rw (eq-eqb (getD (a .table .now) (a .at + keyField) 0) (a .slot .key) (c .before .before .before .before .before .before .before .before .before .if1 .left), eq-eqb (getD (a .table .now) (a .at + leftField) 0) (a .slot .left) (c .before .before .before .before .before .before .if2 .left), eq-eqb (getD (a .table .now) (a .at + rightField) 0) (a .slot .right) (c .before .before .before .if3 .left), ne-eqb (getD (a .table .now) (a .at + leaderField) 0) (a .slot .leader) (c .if4 .taken)))
 
 add-if5 : tie.Need-add-if5
 add-if5 c = search needs
@@ -82,9 +82,9 @@ shared-slice-read-if5 c = search needs
 
 returns-5 : tie.Need-returns-5
 returns-5 c =
-    let start = c .before .before .before .before .before .before .before .before .before .before in
+    let start = c .before .before .before .before .before .before .before .before .before .before .before .before .before .before .before in
     let a = start .args in
-    sym (same-six (a .table .now) (a .at) (a .key) (a .left) (a .right) (a .leader) (a .rank) (a .count) (start .pre) ∙ rw (eq-eqb (getD (a .table .now) (a .at + keyField) 0) (a .key) (c .before .before .before .before .before .before .before .before .if1 .left), eq-eqb (getD (a .table .now) (a .at + leftField) 0) (a .left) (c .before .before .before .before .before .before .if2 .left), eq-eqb (getD (a .table .now) (a .at + rightField) 0) (a .right) (c .before .before .before .before .if3 .left), eq-eqb (getD (a .table .now) (a .at + leaderField) 0) (a .leader) (c .before .before .if4 .left), ne-eqb (getD (a .table .now) (a .at + rankField) 0) (a .rank) (c .if5 .taken)))
+    sym (same-six (a .table .now) (a .at) (a .slot .key) (a .slot .left) (a .slot .right) (a .slot .leader) (a .slot .rank) (a .slot .count) (start .pre) ∙ rw (eq-eqb (getD (a .table .now) (a .at + keyField) 0) (a .slot .key) (c .before .before .before .before .before .before .before .before .before .before .before .before .if1 .left), eq-eqb (getD (a .table .now) (a .at + leftField) 0) (a .slot .left) (c .before .before .before .before .before .before .before .before .before .if2 .left), eq-eqb (getD (a .table .now) (a .at + rightField) 0) (a .slot .right) (c .before .before .before .before .before .before .if3 .left), eq-eqb (getD (a .table .now) (a .at + leaderField) 0) (a .slot .leader) (c .before .before .before .if4 .left), ne-eqb (getD (a .table .now) (a .at + rankField) 0) (a .slot .rank) (c .if5 .taken)))
 
 add-result : tie.Need-add-result
 add-result c = search needs
@@ -97,9 +97,9 @@ shared-slice-read-result c = search needs
 
 returns-6 : tie.Need-returns-6
 returns-6 c =
-    let start = c .before .before .before .before .before .before .before .before .before .before .before in
+    let start = c .before .before .before .before .before .before .before .before .before .before .before .before .before .before .before .before .before in
     let a = start .args in
-    sym (same-six (a .table .now) (a .at) (a .key) (a .left) (a .right) (a .leader) (a .rank) (a .count) (start .pre) ∙ rw (eq-eqb (getD (a .table .now) (a .at + keyField) 0) (a .key) (c .before .before .before .before .before .before .before .before .before .if1 .left), eq-eqb (getD (a .table .now) (a .at + leftField) 0) (a .left) (c .before .before .before .before .before .before .before .if2 .left), eq-eqb (getD (a .table .now) (a .at + rightField) 0) (a .right) (c .before .before .before .before .before .if3 .left), eq-eqb (getD (a .table .now) (a .at + leaderField) 0) (a .leader) (c .before .before .before .if4 .left), eq-eqb (getD (a .table .now) (a .at + rankField) 0) (a .rank) (c .before .if5 .left)))
+    sym (same-six (a .table .now) (a .at) (a .slot .key) (a .slot .left) (a .slot .right) (a .slot .leader) (a .slot .rank) (a .slot .count) (start .pre) ∙ rw (eq-eqb (getD (a .table .now) (a .at + keyField) 0) (a .slot .key) (c .before .before .before .before .before .before .before .before .before .before .before .before .before .before .if1 .left), eq-eqb (getD (a .table .now) (a .at + leftField) 0) (a .slot .left) (c .before .before .before .before .before .before .before .before .before .before .before .if2 .left), eq-eqb (getD (a .table .now) (a .at + rightField) 0) (a .slot .right) (c .before .before .before .before .before .before .before .before .if3 .left), eq-eqb (getD (a .table .now) (a .at + leaderField) 0) (a .slot .leader) (c .before .before .before .before .before .if4 .left), eq-eqb (getD (a .table .now) (a .at + rankField) 0) (a .slot .rank) (c .before .before .if5 .left)))
 
 pub slot-is-spec : {M : Type 1} → statement M
 slot-is-spec =

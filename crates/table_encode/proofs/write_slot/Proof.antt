@@ -66,7 +66,7 @@ same-length : tie.Need-same-length
 same-length c = search needs
 
 returns : tie.Need-returns
-returns c = slot-stores (c .args .table .now) (c .args .at) (c .args .key) (c .args .left) (c .args .right) (c .args .leader) (c .args .rank) (c .args .count) (c .pre)
+returns c = slot-stores (c .args .table .now) (c .args .at) (c .args .slot .key) (c .args .slot .left) (c .args .slot .right) (c .args .slot .leader) (c .args .slot .rank) (c .args .slot .count) (c .pre)
 
 pub write-slot-spec : {M : Type 1} → statement M
 write-slot-spec =

@@ -1,7 +1,7 @@
 -- `table_examine::examine_within` meets its contract. Assumes nothing.
 use mathlib.Core.Bool.{true, false}
 use mathlib.Core.List.{List}
-use mathlib.Core.Path.{_≡_, refl, sym, ap, _∙_, subst}
+use mathlib.Core.Path.{_≡_, sym, ap, _∙_, subst}
 use Prim.Native.Nat.{ℕ, _≤_}
 use native.Mathlib.Omega.{arith}
 use lib.ListN.{length, getD, take}
@@ -84,7 +84,7 @@ compares m =
     let shown : Contents = record { order = getD (words-in p) orderWord 0; keys = take (p .read-keys .result) (list-in p) } in
     let keys = comparable (tested m) in
     decided (slots-in p) (words-in p) (right p) (all-rise (tested m))
-    ∙ sym (compared (slots-in p) (words-in p) (getD (words-in p) orderWord 0) (take (p .read-keys .result) (list-in p)) (slots-in p) refl (read p) refl)
+    ∙ sym (compared (slots-in p) (words-in p) (take (p .read-keys .result) (list-in p)) (read p))
     ∙ ap (λ (m : ℕ). same (words-in p) (fresh m shown)) (sym (m .prepare .ensures .1))
     ∙ ap (same (words-in p)) (sym (prepared-words (getD (words-in (rises-tested (tested m))) orderWord 0) (comparable (tested m) .wide) (take ((rises-tested (tested m)) .read-keys .result) (list-in (rises-tested (tested m)))) (m .prepare .last .1 .1 .1 .1 .1 .0) (m .prepare .last .1 .1 .1 .1 .1 .1 .0) (m .prepare .last .1 .1 .1 .1 .1 .1 .1 .0) (m .prepare .last .1 .1 .1 .1 .1 .1 .1 .1 .0) (m .prepare .last .1 .1 .1 .1 .1 .1 .1 .1 .1 .0) (take (slots-in (rises-tested (tested m))) (m .prepare .last .1 .1 .1 .1 .1 .1 .1 .1 .1 .1 .0)) (m .prepare .result) (m .prepare .ensures .0) (keys .rising) (keys .some)))
 

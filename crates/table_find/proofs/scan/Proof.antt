@@ -5,16 +5,15 @@ use mathlib.Core.Path.{_≡_, sym, _∙_}
 use Prim.Native.Nat.{_-_}
 use borrow.Author.Needs.{needs}
 use borrow.Author.Tests.{eqb-true, eqb-false}
-use Rattle.lists.specs.Lists.{upFrom}
 use Rattle.table.specs.Layout.{keyIn}
-use Rattle.table_find.specs.Find.{stopsAt, firstOf, scanned}
+use Rattle.table_find.specs.Find.{stopsAt, scanned}
 use Rattle.table_find.proofs.Searching.{stops-on-empty, stops-on-key, passes-other}
 use Rattle.table_find.proofs.Scanning.{scan-finds, scan-goes-on, scan-ends}
 use Rattle.table_find.proofs.scan.Statement.{statement}
 use Rattle.table_find.proofs.scan.Tie as tie
 
 abbrev Inv-loop : tie.InvT-loop
-Inv-loop table low high key slot₀ slot = firstOf (stopsAt table key) (upFrom slot (high - slot)) ≡ scanned table low high key
+Inv-loop table low high key slot₀ slot = scanned table slot high key ≡ scanned table low high key
 
 abbrev μ-loop : tie.MeasureT-loop
 μ-loop table low high key slot₀ slot = high - slot
@@ -49,7 +48,7 @@ returns c =
     ⊎-elim (λ w. stops-on-key (args .key) held (w .taken))
     (λ w. stops-on-empty (args .key) held (eqb-true held 0 (w .1 .taken))) (c .if1 .came)
     in
-    sym (scan-finds (stopsAt words (args .key)) slot (args .high) (c .before .before .loop-test .taken) stop) ∙ at-loop .loop .inv
+    sym (scan-finds words (args .key) slot (args .high) (c .before .before .loop-test .taken) stop) ∙ at-loop .loop .inv
 
 add-slot : tie.Need-add-slot Inv-loop μ-loop
 add-slot c = search needs
@@ -66,13 +65,13 @@ loop-again c =
     let words = args .table .now in
     let held = keyIn words slot in
     let passed = passes-other (args .key) held (eqb-false held 0 (c .if2 .left)) (c .before .if1 .left) in
-    sym (scan-goes-on (stopsAt words (args .key)) slot (args .high) (in-loop .loop-test .taken) passed) ∙ in-loop .before .loop .inv
+    sym (scan-goes-on words (args .key) slot (args .high) (in-loop .loop-test .taken) passed) ∙ in-loop .before .loop .inv
 
 returns-2 : tie.Need-returns-2 Inv-loop μ-loop
 returns-2 c =
     let loop = c .before .loop in
     let args = c .before .before .args in
-    sym (scan-ends (stopsAt (args .table .now) (args .key)) (loop .slot) (args .high) (c .loop-test .left)) ∙ loop .inv
+    sym (scan-ends (args .table .now) (args .key) (loop .slot) (args .high) (c .loop-test .left)) ∙ loop .inv
 
 pub scan-spec : {M : Type 1} → statement M
 scan-spec =
