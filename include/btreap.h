@@ -1,35 +1,40 @@
 /* Wethpaol: a verified, uniquely represented index of 64-bit keys, kept in words that the caller lends.
  *
- * A set of keys (1 to 2^64 - 1) lives in a table: an array of uint64_t that belongs to the caller. Every word of a table is a function of
- * its order, its number of slots and the set alone, however the set was reached. A table's image is a string of bytes; two sound tables
- * have equal images exactly when their orders and sets are equal.
+ * A set of keys (1 to 2^64 - 1), each with its measure, lives in a table: an array of uint64_t that belongs to the caller. Every word of a
+ * table is a function of its order, its number of slots and the set alone, however the set was reached. A table's image is a string of
+ * bytes; two sound tables have equal images exactly when their orders and sets are equal, measures included.
  *
- * The table.  BTREAP_TABLE_WORDS(M), that is 3 + 6*M words, for M slots, 1 to 4,096; it holds up to M keys. Make one of any words
- *             with btreap_set_up, btreap_build, btreap_read or btreap_load; then do not write to it but by these calls.
- * The order.  3 to 255, chosen at set-up, build or load: a block of the tree has up to about twice that many keys.
- * The image.  15 + 14*b + 30*n bytes for n keys in b blocks; no image is longer than BTREAP_LONGEST_IMAGE = 180,239 bytes.
+ * The table.    BTREAP_TABLE_WORDS(M), that is 3 + 8*M words, for M slots, 1 to 4,096; it holds up to M keys. Make one of any words
+ *               with btreap_set_up, btreap_build, btreap_read or btreap_load; then do not write to it but by these calls.
+ * The order.    3 to 255, chosen at set-up, build or load: a block of the tree has up to about twice that many keys.
+ * The measure.  A length, 10,000 to 40,000, and a heel correction, -5,000 to 5,000, both in hundredths of a millimetre. A key that is not
+ *               measured has length 0 and correction 0. The measure comes with its key; to change it, delete the key and insert it again.
+ * The image.    15 + 14*b + 30*n + 6*m bytes for n keys in b blocks, m of the keys measured; no image is longer than
+ *               BTREAP_LONGEST_IMAGE = 204,815 bytes.
  *
  * Any words, numbers and bytes may be handed in: each call replies, and a call that refuses changes none of the lent memory. `refusal` is
  * 0 when the call was accepted; all other numbers of a reply are 0 when it was refused, except the three of a step's place (next, high,
- * done), which then come back as they were passed. Of several refusals the lowest is given:
+ * done), which then come back as they were passed. Of several refusals the one is given that the call names first; each call names its
+ * refusals by rising number, but 12 before 7 and 10:
  *
- *    1  the number of words is not 3 + 6*M for an M from 1 to 4,096
+ *    1  the number of words is not 3 + 8*M for an M from 1 to 4,096
  *    2  the order is outside 3 to 255
  *    3  the key is zero
  *    4  low is above high
  *    5  the keys of a list or of a batch do not rise strictly, or one is zero
  *    6  the bytes are not an image of any order and any set of at most 4,096 keys
- *    7  the table is not sound: some word is not what its order and keys make it
+ *    7  the table is not sound: some word is not what its order, keys and measures make it, or a measure is outside the rules
  *    8  the key to insert is held
  *    9  the key to delete is absent
  *   10  there would be more keys than slots
  *   11  the output is too short
+ *   12  a measure is outside the rules; or the lengths or the corrections of a list are fewer than its keys, or more
  *
  * What the caller owes.  Each pointer points to as many elements as the length beside it says, aligned for their type; it may be null
  * only where that length is 0. What a call writes to overlaps nothing else that it is handed, and no other thread uses it during the call.
  *
  * The calls keep no state, allocate nothing, print nothing and may run at the same time in any number of threads, on different tables or, where
- * they only read it, on one. Stack, as measured: up to 380,000 bytes for btreap_read and btreap_list, up to 150,000 for the other calls,
+ * they only read it, on one. Stack, as measured: up to 440,000 bytes for btreap_read and btreap_list, up to 180,000 for the other calls,
  * whatever the table's size; next to none for btreap_set_up.
  *
  * Link with -lbtreap (x86-64 Linux); the archive needs nothing but the C library's memory functions. `pkg-config --cflags --libs btreap`.
@@ -45,10 +50,17 @@ extern "C" {
 #endif
 
 #define BTREAP_MOST_SLOTS 4096
-#define BTREAP_TABLE_WORDS(slots) (3 + 6 * (size_t)(slots))
+#define BTREAP_TABLE_WORDS(slots) (3 + 8 * (size_t)(slots))
 #define BTREAP_LEAST_ORDER 3
 #define BTREAP_GREATEST_ORDER 255
-#define BTREAP_LONGEST_IMAGE 180239
+#define BTREAP_LONGEST_IMAGE 204815
+
+/* Measures, in hundredths of a millimetre; the last is the length of a key that has none. */
+#define BTREAP_LEAST_LENGTH 10000
+#define BTREAP_GREATEST_LENGTH 40000
+#define BTREAP_LEAST_CORRECTION (-5000)
+#define BTREAP_GREATEST_CORRECTION 5000
+#define BTREAP_NOT_MEASURED 0
 
 /* Refusals. */
 #define BTREAP_ACCEPTED 0
@@ -63,13 +75,15 @@ extern "C" {
 #define BTREAP_KEY_ABSENT 9
 #define BTREAP_TOO_MANY_KEYS 10
 #define BTREAP_OUTPUT_TOO_SHORT 11
+#define BTREAP_WRONG_MEASURE 12
 
 struct btreap_ranked {
     uint64_t refusal, rank;
 };
 
 struct btreap_found {
-    uint64_t refusal, held, rank, count, leader, blocks;
+    uint64_t refusal, held, rank, count, leader, blocks, length;
+    int64_t correction;
 };
 
 struct btreap_sized {
@@ -88,23 +102,28 @@ struct btreap_question {
 /* Make of any words the blank table of an order. Gives the refusal: 1, 2. */
 uint64_t btreap_set_up(uint64_t *table, size_t words, uint64_t order);
 
-/* Make of any words the table of an order and of n strictly rising keys. Gives the refusal: 1, 2, 5, 10. */
-uint64_t btreap_build(uint64_t *table, size_t words, uint64_t order, const uint64_t *keys, size_t n);
+/* Make of any words the table of an order and of n strictly rising keys, each with the length and the correction at its place of the two
+ * other lists; these have as many entries as there are keys. Gives the refusal: 1, 2, 5, 12, 10. */
+uint64_t btreap_build(uint64_t *table, size_t words, uint64_t order, const uint64_t *keys, size_t n, const uint64_t *lengths,
+                      size_t lengths_n, const int32_t *corrections, size_t corrections_n);
 
 /* Make of any words the blank table of an order, and do on it count operations that the seed alone determines: a load that anyone can run
  * again. Each operation first sets seed to 6364136223846793005 * seed + 1442695040888963407, modulo 2^64. Its key is then
- * (seed >> 32) % 512 + 1, and seed >> 62 chooses: 0 or 1 insert, 2 delete, 3 lookup. An operation that is turned down counts as done; what
- * the operations reply is not given. The table is the one that btreap_set_up and as many calls would leave. Gives the refusal: 1, 2. */
+ * (seed >> 32) % 512 + 1, and seed >> 62 chooses: 0 or 1 insert, 2 delete, 3 lookup. No key is measured. An operation that is turned down
+ * counts as done; what the operations reply is not given. The table is the one that btreap_set_up and as many calls would leave.
+ * Gives the refusal: 1, 2. */
 uint64_t btreap_load(uint64_t *table, size_t words, uint64_t order, uint64_t seed, uint16_t count);
 
-/* Insert a key; the rank that it then has. Refusals: 1, 3, 7, 8, 10. */
-struct btreap_ranked btreap_insert(uint64_t *table, size_t words, uint64_t key);
+/* Insert a key with its measure, 0 and 0 for one that is not measured; the rank that it then has. A held key is refused also with another
+ * measure. Refusals: 1, 3, 12, 7, 8, 10. */
+struct btreap_ranked btreap_insert(uint64_t *table, size_t words, uint64_t key, uint64_t length, int32_t correction);
 
 /* Delete a key; the rank that it had. Refusals: 1, 3, 7, 9. */
 struct btreap_ranked btreap_delete(uint64_t *table, size_t words, uint64_t key);
 
-/* Look a key up: held is 1 or 0; rank, count and leader of a held key, zeros for an absent one; and how many different blocks hold the
- * keys that were compared on the way down. Refusals: 1, 3, 7. */
+/* Look a key up: held is 1 or 0; rank, count and leader of a held key and its length and correction, zeros for an absent one; and how many
+ * different blocks hold the keys that were compared on the way down. A key that is not measured has length 0 and correction 0.
+ * Refusals: 1, 3, 7. */
 struct btreap_found btreap_lookup(const uint64_t *table, size_t words, uint64_t key);
 
 /* Look n keys up together, such as those of one order sheet: the table is judged once for all of them. The keys rise strictly, and none is

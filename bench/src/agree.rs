@@ -4,13 +4,15 @@
 use crate::batch::{for_fast, for_library};
 use crate::case::{Case, ORDER};
 use crate::load;
-use btreap::Found;
-use reference::fast;
+use crate::measures::Measures;
+use btreap::{Found, Measure};
+use reference::{fast, measure};
 
 /// Ends the run where a table, an image, a listing, a question or a reply differs.
 pub fn check(case: &Case, table: &[u64], image: &[u8]) {
     let mut other = vec![0; table.len()];
-    fast::build(&mut other, ORDER, &case.keys);
+    check_build(case, &Measures::of(case.keys.len(), 1), &mut other);
+    check_build(case, &case.measures, &mut other);
     assert!(other == table, "build differs");
     assert!(output(image.len(), |out| fast::write_image(table, out).length) == image);
     fast::set_up(&mut other, ORDER);
@@ -22,11 +24,8 @@ pub fn check(case: &Case, table: &[u64], image: &[u8]) {
     check_batch(table, &case.batch);
     for &key in case.held.iter().chain(&case.absent) {
         check_look_up(table, key);
-        check_change(
-            table,
-            |t| btreap::insert(t, key),
-            |t| fast::insert(t, key).rank,
-        );
+        check_insert(table, key, Measure::NONE);
+        check_insert(table, key, Measure::new(26_500, -120));
         check_change(
             table,
             |t| btreap::delete(t, key),
@@ -43,14 +42,29 @@ pub fn check_load() {
         load::by_library(&mut one, count);
         fast::load(&mut other, ORDER, load::SEED, count);
         assert!(one == other, "load differs");
-        let keys: Vec<u64> = load::by_set(count).into_iter().collect();
-        fast::build(&mut other, ORDER, &keys);
+        let keys: Vec<u64> = load::by_set(count).into_keys().collect();
+        let zeros = vec![0; keys.len()];
+        fast::build(&mut other, ORDER, &keys, &zeros, &vec![0; keys.len()]);
         assert!(one == other, "the set differs");
         if count < load::COUNT {
             load::by_separate_calls(&mut other, count);
             assert!(one == other, "separate calls differ");
         }
     }
+}
+
+/// Both build the same table of the case's keys with these measures, which the second
+/// program leaves in `table`.
+fn check_build(case: &Case, measures: &Measures, table: &mut [u64]) {
+    let Measures {
+        lengths,
+        corrections,
+    } = measures;
+    let mut one = table.to_vec();
+    let reply = btreap::build_measured(&mut one, ORDER, &case.keys, lengths, corrections);
+    assert_eq!(reply, Ok(()));
+    fast::build(table, ORDER, &case.keys, lengths, corrections);
+    assert!(one == table, "build differs");
 }
 
 /// The bytes that a call writes, as many as it says.
@@ -69,6 +83,7 @@ fn check_look_up(table: &[u64], key: u64) {
             count: reply.count,
             leader: reply.leader,
             blocks: reply.blocks,
+            measure: Measure::new(reply.measure.length, reply.measure.correction),
         },
         false => Found::Absent {
             blocks: reply.blocks,
@@ -84,6 +99,19 @@ fn check_batch(table: &[u64], keys: &[u64]) {
     assert_eq!(btreap::look_up_batch(table, &mut one), Ok(reply.blocks));
     let said = one.iter().map(|question| (question.held, question.rank));
     assert!(said.eq(other.iter().map(|question| (question.held, question.rank))));
+}
+
+fn check_insert(table: &[u64], key: u64, measure: Measure) {
+    check_change(
+        table,
+        |t| btreap::insert_measured(t, key, measure),
+        |t| fast::insert(t, key, for_fast_form(measure)).rank,
+    );
+}
+
+/// The second program has a record of its own for a measure.
+fn for_fast_form(measure: Measure) -> measure::Measure {
+    measure::Measure::new(measure.length, measure.correction)
 }
 
 /// Both give the same rank, zero when refused, and leave the same words.

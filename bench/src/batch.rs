@@ -44,10 +44,10 @@ impl<'a> Lent<'a> {
                 expect(0, fast::look_up_batch(table, questions).refusal)
             }),
             asking(
-                (Plain::new(&self.case.keys), vec![false; BATCH]),
+                (Plain::new(self.case.set()), vec![false; BATCH]),
                 move |(plain, held), _| {
                     for (held, key) in held.iter_mut().zip(keys) {
-                        *held = plain.set.contains(key);
+                        *held = plain.set.contains_key(key);
                     }
                     black_box(held);
                     assert!(plain.agrees());

@@ -1,6 +1,8 @@
-//! The tables that are measured: how many slots, which keys, and some keys that
-//! are not held.
+//! The tables that are timed: how many slots, which keys, every second one measured,
+//! and some keys that are not held.
 
+use crate::measures::Measures;
+use crate::plain::Set;
 use reference::priority::priority;
 use reference::random::splitmix;
 use std::collections::BTreeSet;
@@ -19,12 +21,38 @@ pub struct Case {
     pub slots: usize,
     /// The held keys, rising.
     pub keys: Vec<u64>,
+    /// Their measures; every second key is measured.
+    pub measures: Measures,
     /// Held keys to look up and to delete.
     pub held: Vec<u64>,
     /// Absent keys to look up and to insert.
     pub absent: Vec<u64>,
     /// Keys to look up together, rising.
     pub batch: Vec<u64>,
+}
+
+impl Case {
+    fn new(name: String, slots: usize, keys: Vec<u64>, held: Vec<u64>, absent: Vec<u64>) -> Case {
+        Case {
+            name,
+            slots,
+            batch: batch(&keys),
+            measures: Measures::of(keys.len(), 2),
+            keys,
+            held,
+            absent,
+        }
+    }
+
+    /// The held keys with these measures.
+    pub fn set_with(&self, measures: &Measures) -> Set {
+        self.keys.iter().copied().zip(measures.iter()).collect()
+    }
+
+    /// The set that the table holds.
+    pub fn set(&self) -> Set {
+        self.set_with(&self.measures)
+    }
 }
 
 /// All cases, in the order of the report.
@@ -45,14 +73,7 @@ fn random(slots: usize, number: usize) -> Case {
     let (keys, absent) = distinct(number, || splitmix(&mut state).max(1));
     let held = (0..TURNS).map(|turn| keys[turn * number / TURNS]).collect();
     let name = format!("M = {slots}, n = {number}");
-    Case {
-        name,
-        slots,
-        batch: batch(&keys),
-        keys,
-        held,
-        absent,
-    }
+    Case::new(name, slots, keys, held, absent)
 }
 
 /// A chain of 4,095 keys: rising keys with falling priorities, so that the treap
@@ -72,14 +93,7 @@ fn chain() -> Case {
     let absent = keys.split_off(LENGTH);
     let held = keys[LENGTH - TURNS..].to_vec();
     let name = format!("M = 4096, a chain of n = {LENGTH}");
-    Case {
-        name,
-        slots: 4096,
-        batch: batch(&keys),
-        keys,
-        held,
-        absent,
-    }
+    Case::new(name, 4096, keys, held, absent)
 }
 
 /// 4,000 keys with one home, the middle slot; those to insert have it too.
@@ -96,14 +110,7 @@ fn one_home() -> Case {
     });
     let held = (0..TURNS).map(|turn| keys[turn * NUMBER / TURNS]).collect();
     let name = format!("M = {SLOTS}, one home for all n = {NUMBER}");
-    Case {
-        name,
-        slots: SLOTS,
-        batch: batch(&keys),
-        keys,
-        held,
-        absent,
-    }
+    Case::new(name, SLOTS, keys, held, absent)
 }
 
 /// 4,000 keys in 40 runs of 100 neighbours; those to insert are the next after a
@@ -122,14 +129,8 @@ fn clusters() -> Case {
         .map(|start| start + LENGTH)
         .take(TURNS)
         .collect();
-    Case {
-        name: format!("M = 4096, n = {number} in {RUNS} runs of {LENGTH}"),
-        slots: 4096,
-        batch: batch(&keys),
-        keys,
-        held,
-        absent,
-    }
+    let name = format!("M = 4096, n = {number} in {RUNS} runs of {LENGTH}");
+    Case::new(name, 4096, keys, held, absent)
 }
 
 /// The keys of a batch, rising. Half of them are held, or all that are held where

@@ -2,6 +2,7 @@
 
 use crate::black_box::black_box;
 use crate::case::ORDER;
+use crate::measures::Measures;
 use crate::stack::depth;
 use btreap::{Place, Question, Refusal, LONGEST_IMAGE, MOST_SLOTS};
 use reference::random::splitmix;
@@ -27,37 +28,43 @@ pub fn print() {
     }
 }
 
-/// Each call's depth on a table that the keys fill. Insert follows delete, so
-/// that there is room.
+/// Each call's depth on a table that the keys fill, all of them measured, so that its
+/// image is as long as it can be. Insert follows delete, so that there is room.
 fn depths(keys: &[u64]) -> Vec<(&'static str, usize)> {
     let slots = keys.len();
-    let key = keys[slots / 2];
+    let (key, measures) = (keys[slots / 2], Measures::of(slots, 1));
+    let (measure, lengths, corrections) =
+        (measures.at(0), &measures.lengths, &measures.corrections);
     let mut table = vec![0; btreap::table_words(slots)];
     let t = &mut table[..];
     let (mut image, mut text) = (vec![0; LONGEST_IMAGE], vec![0; 100 * (slots + 1)]);
     let mut words = vec![0; slots];
     let mut batch: Vec<Question> = keys.iter().map(|&key| Question::new(key)).collect();
     let mut depths = vec![];
-    let mut measure = |call, job: &mut dyn FnMut()| depths.push((call, depth(job)));
-    measure("(no call)", &mut || ());
-    measure("set_up", &mut || done(btreap::set_up(t, ORDER)));
-    measure("load", &mut || done(btreap::load(t, ORDER, 1, LOAD)));
-    measure("build", &mut || done(btreap::build(t, ORDER, keys)));
-    measure("delete", &mut || done(btreap::delete(t, key)));
-    measure("insert", &mut || done(btreap::insert(t, key)));
-    measure("lookup", &mut || done(btreap::look_up(t, key)));
-    measure("batch", &mut || done(btreap::look_up_batch(t, &mut batch)));
-    measure("range", &mut || {
+    let mut depth_of = |call, job: &mut dyn FnMut()| depths.push((call, depth(job)));
+    depth_of("(no call)", &mut || ());
+    depth_of("set_up", &mut || done(btreap::set_up(t, ORDER)));
+    depth_of("load", &mut || done(btreap::load(t, ORDER, 1, LOAD)));
+    depth_of("build", &mut || {
+        done(btreap::build_measured(t, ORDER, keys, lengths, corrections))
+    });
+    depth_of("delete", &mut || done(btreap::delete(t, key)));
+    depth_of("insert", &mut || {
+        done(btreap::insert_measured(t, key, measure))
+    });
+    depth_of("lookup", &mut || done(btreap::look_up(t, key)));
+    depth_of("batch", &mut || done(btreap::look_up_batch(t, &mut batch)));
+    depth_of("range", &mut || {
         done(btreap::range(t, 0, u64::MAX, &mut words))
     });
-    measure("step", &mut || {
+    depth_of("step", &mut || {
         done(btreap::step(t, &mut Place::new(key, key)))
     });
-    measure("write", &mut || done(btreap::write(t, &mut image)));
+    depth_of("write", &mut || done(btreap::write(t, &mut image)));
     let length = btreap::write(t, &mut image).expect("the table is sound");
     image.truncate(length);
-    measure("read", &mut || done(btreap::read(t, &image)));
-    measure("list", &mut || done(btreap::list(&image, &mut text)));
+    depth_of("read", &mut || done(btreap::read(t, &image)));
+    depth_of("list", &mut || done(btreap::list(&image, &mut text)));
     depths
 }
 

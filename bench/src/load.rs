@@ -6,6 +6,7 @@ use crate::candidates::{asking, expect, over, refusal};
 use crate::case::ORDER;
 use crate::plain::{Plain, Set};
 use crate::timing::least_of_rounds;
+use btreap::Measure;
 use reference::fast;
 use reference::load::{operations, Operation};
 
@@ -20,7 +21,7 @@ pub const ROUNDS: usize = 3;
 /// same operations, then serialised whole and compared with a stored copy.
 pub fn times() -> [f64; 4] {
     let table = words();
-    let left: Vec<u64> = by_set(COUNT).into_iter().collect();
+    let left = by_set(COUNT);
     least_of_rounds(
         [
             over(&table, |t, _| by_library(t, COUNT)),
@@ -28,7 +29,7 @@ pub fn times() -> [f64; 4] {
             over(&table, |t, _| {
                 expect(0, fast::load(t, ORDER, SEED, COUNT).refusal)
             }),
-            asking(Plain::new(&left), |plain, _| {
+            asking(Plain::new(left), |plain, _| {
                 plain.set = by_set(COUNT);
                 assert!(plain.agrees());
             }),
@@ -62,15 +63,17 @@ pub fn by_separate_calls(table: &mut [u64], count: u16) {
 }
 
 /// The set that the operations leave, of as many keys as the table has slots at
-/// most.
+/// most, none of them measured.
 pub fn by_set(count: u16) -> Set {
     let mut set = Set::new();
     for operation in operations(black_box(SEED), count) {
         match operation {
-            Operation::Insert(key) if set.len() < SLOTS => _ = black_box(set.insert(key)),
+            Operation::Insert(key) if set.len() < SLOTS => {
+                _ = black_box(set.entry(key).or_insert(Measure::NONE))
+            }
             Operation::Insert(_) => (),
             Operation::Delete(key) => _ = black_box(set.remove(&key)),
-            Operation::LookUp(key) => _ = black_box(set.contains(&key)),
+            Operation::LookUp(key) => _ = black_box(set.get(&key)),
         }
     }
     set

@@ -8,6 +8,7 @@ mod case;
 mod clock;
 mod depths;
 mod load;
+mod measures;
 mod plain;
 mod report;
 mod rows;

@@ -1,13 +1,15 @@
-//! Candidate (c): what one would write instead. A `BTreeSet<u64>` does the call;
-//! then the whole set is serialised and compared with a stored copy, which is
-//! what tells a user that the set is the one it ought to be.
+//! Candidate (c): what one would write instead. A `BTreeMap` from keys to measures
+//! does the call; then the whole map is serialised and compared with a stored copy,
+//! which is what tells a user that the set is the one it ought to be.
 
-use std::collections::BTreeSet;
+use btreap::Measure;
+use std::collections::BTreeMap;
 use std::fmt::Write;
 
-const KEY_BYTES: usize = 8;
+/// Eight bytes for the key, four for the length, two for the correction.
+const ENTRY_BYTES: usize = 14;
 
-pub type Set = BTreeSet<u64>;
+pub type Set = BTreeMap<u64, Measure>;
 
 /// A set, the serialised copy that it ought to equal, and room to serialise in.
 pub struct Plain {
@@ -16,30 +18,43 @@ pub struct Plain {
     pub room: Vec<u8>,
 }
 
-/// Eight bytes for each key, rising. Room is taken also for no keys: comparing
-/// bytes at no real address is slow on some processors.
-pub fn serialised<'a>(keys: impl IntoIterator<Item = &'a u64>) -> Vec<u8> {
-    let mut bytes = Vec::with_capacity(KEY_BYTES);
-    keys.into_iter()
-        .for_each(|key| bytes.extend_from_slice(&key.to_le_bytes()));
+/// The bytes of each key with its measure, rising. Room is taken also for no keys:
+/// comparing bytes at no real address is slow on some processors.
+pub fn serialised(set: &Set) -> Vec<u8> {
+    let mut bytes = Vec::with_capacity(ENTRY_BYTES * (set.len() + 1));
+    serialise_into(set, &mut bytes);
     bytes
 }
 
+fn serialise_into(set: &Set, bytes: &mut Vec<u8>) {
+    for (key, measure) in set {
+        let mut entry = [0; ENTRY_BYTES];
+        entry[..8].copy_from_slice(&key.to_le_bytes());
+        entry[8..12].copy_from_slice(&(measure.length as u32).to_le_bytes());
+        entry[12..].copy_from_slice(&(measure.correction as i16).to_le_bytes());
+        bytes.extend_from_slice(&entry);
+    }
+}
+
+/// The key and the measure of an entry.
+fn deserialised(entry: &[u8]) -> (u64, Measure) {
+    let key = u64::from_le_bytes(entry[..8].try_into().expect("eight bytes"));
+    let length = u32::from_le_bytes(entry[8..12].try_into().expect("four bytes"));
+    let correction = i16::from_le_bytes(entry[12..].try_into().expect("two bytes"));
+    (key, Measure::new(length.into(), correction.into()))
+}
+
 impl Plain {
-    pub fn new(keys: &[u64]) -> Plain {
-        Plain {
-            set: keys.iter().copied().collect(),
-            stored: serialised(keys),
-            room: Vec::with_capacity(KEY_BYTES * (keys.len() + 1)),
-        }
+    pub fn new(set: Set) -> Plain {
+        let stored = serialised(&set);
+        let room = Vec::with_capacity(stored.capacity());
+        Plain { set, stored, room }
     }
 
     /// Serialises the whole set.
     pub fn serialise(&mut self) {
         self.room.clear();
-        for key in &self.set {
-            self.room.extend_from_slice(&key.to_le_bytes());
-        }
+        serialise_into(&self.set, &mut self.room);
     }
 
     /// Serialises and compares with the stored copy.
@@ -50,14 +65,13 @@ impl Plain {
 
     /// Makes the set of the bytes that serialising gives.
     pub fn deserialise(&mut self, bytes: &[u8]) {
-        let key = |bytes: &[u8]| u64::from_le_bytes(bytes.try_into().expect("a key's bytes"));
-        self.set = bytes.chunks_exact(KEY_BYTES).map(key).collect();
+        self.set = bytes.chunks_exact(ENTRY_BYTES).map(deserialised).collect();
     }
 
     /// A line for each key.
     pub fn listing(&self, text: &mut String) {
         text.clear();
-        for key in &self.set {
+        for key in self.set.keys() {
             writeln!(text, "key {key:016X}").expect("a string takes any text");
         }
     }

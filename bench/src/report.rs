@@ -9,11 +9,13 @@ use crate::timing::least;
 
 /// Measures every row and prints it.
 pub fn print() {
-    println!("Order {ORDER}. Times are the least of many rounds. The last three columns are multiples of");
+    println!("Order {ORDER}. Every second key is measured. Times are the least of many rounds. The last three columns are multiples of");
     println!(
         "(a) reading the table's words once, (b) the same call in the second program's fast form,"
     );
-    println!("(c) a `BTreeSet<u64>`, serialised whole and compared with a stored copy.");
+    println!(
+        "(c) a `BTreeMap` from keys to measures, serialised whole and compared with a stored copy."
+    );
     case::all().iter().for_each(print_case);
     print_load();
 }

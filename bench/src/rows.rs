@@ -5,31 +5,45 @@
 use crate::black_box::black_box;
 use crate::candidates::{asking, changing, changing_set, expect, over, reading, refusal};
 use crate::case::{Case, ORDER};
+use crate::measures::Measures;
 use crate::plain::{serialised, Plain, Set};
 use crate::timing::{candidate, Candidate};
-use reference::calls::{self, TOO_MANY};
-use reference::fast;
+use btreap::{Measure, Refusal};
+use reference::calls::{self, PlainReply, TOO_MANY};
+use reference::{fast, measure};
 
 /// One call on one case with its four candidates: the library's call, (a)
 /// reading the table's words once, (b) the second program's fast form, and (c)
-/// a `BTreeSet<u64>` with serialising and comparing.
+/// a `BTreeMap` from keys to measures with serialising and comparing.
 pub struct Row<'a> {
     pub call: String,
     pub candidates: [Candidate<'a>; 4],
 }
 
-/// A case with the sound table for its keys, its image and its listing's length.
+/// A case with the sound table for its keys, its image and its listing's length; and
+/// measures with which every key is measured.
 pub struct Lent<'a> {
     pub case: &'a Case,
     pub table: Vec<u64>,
     pub image: Vec<u8>,
     text: usize,
+    all_measured: Measures,
+}
+
+/// The library's build of keys with measures.
+fn build(table: &mut [u64], keys: &[u64], measures: &Measures) -> Result<(), Refusal> {
+    btreap::build_measured(table, ORDER, keys, &measures.lengths, &measures.corrections)
+}
+
+/// The same in the second program's fast form.
+fn build_fast(table: &mut [u64], keys: &[u64], measures: &Measures) -> PlainReply {
+    fast::build(table, ORDER, keys, &measures.lengths, &measures.corrections)
 }
 
 impl<'a> Lent<'a> {
     pub fn new(case: &'a Case) -> Lent<'a> {
         let mut table = vec![0; btreap::table_words(case.slots)];
-        btreap::build(&mut table, ORDER, &case.keys).expect("keys rise and have room");
+        build(&mut table, &case.keys, &case.measures).expect("keys rise and have room");
         let mut image = vec![0; btreap::LONGEST_IMAGE];
         let length = btreap::write(&table, &mut image).expect("the table is sound");
         image.truncate(length);
@@ -40,6 +54,7 @@ impl<'a> Lent<'a> {
             table,
             image,
             text,
+            all_measured: Measures::of(case.keys.len(), 1),
         }
     }
 
@@ -63,7 +78,8 @@ impl<'a> Lent<'a> {
     pub fn rows(&'a self) -> Vec<Row<'a>> {
         vec![
             self.set_up(),
-            self.build(),
+            self.build("build", &self.case.measures),
+            self.build("build, all measured", &self.all_measured),
             self.insert(),
             self.delete(),
             self.look_up("lookup, held", &self.case.held),
@@ -91,37 +107,37 @@ impl<'a> Lent<'a> {
             over(&self.table, |t, _| {
                 expect(0, fast::set_up(t, ORDER).refusal)
             }),
-            asking(Plain::new(&[]), |plain, _| {
+            asking(Plain::new(Set::new()), |plain, _| {
                 plain.set = black_box(Set::new());
                 assert!(plain.agrees());
             }),
         )
     }
 
-    /// (c): a set is made of the rising keys; dropping the old one is not timed.
-    fn build(&'a self) -> Row<'a> {
+    /// (c): a set is made of the lists; dropping the old one is not timed.
+    fn build(&'a self, call: &str, measures: &'a Measures) -> Row<'a> {
         let keys = &self.case.keys;
         self.row(
-            "build",
+            call,
             over(&self.table, |t, _| {
-                expect(0, refusal(btreap::build(t, ORDER, keys)))
+                expect(0, refusal(build(t, keys, measures)))
             }),
             over(&self.table, |t, _| {
-                expect(0, fast::build(t, ORDER, keys).refusal)
+                expect(0, build_fast(t, keys, measures).refusal)
             }),
             candidate(
-                Plain::new(keys),
+                Plain::new(self.case.set_with(measures)),
                 |plain, _, _| plain.set.clear(),
                 |plain, _, _| {
-                    plain.set = keys.iter().copied().collect();
+                    plain.set = self.case.set_with(measures);
                     assert!(plain.agrees());
                 },
             ),
         )
     }
 
-    /// A fresh key is inserted; the table is restored before by copying it
-    /// whole, which is not timed. A full table refuses with 10.
+    /// A fresh key is inserted, unmeasured; the table is restored before by copying
+    /// it whole, which is not timed. A full table refuses with 10.
     fn insert(&'a self) -> Row<'a> {
         let keys = &self.case.absent;
         let refused = if self.is_full() { TOO_MANY } else { 0 };
@@ -136,11 +152,12 @@ impl<'a> Lent<'a> {
                 expect(refused, refusal(btreap::insert(t, keys[turn])))
             }),
             changing(&self.table, move |t, turn| {
-                expect(refused, fast::insert(t, keys[turn]).refusal)
+                let none = measure::Measure::NONE;
+                expect(refused, fast::insert(t, keys[turn], none).refusal)
             }),
             changing_set(
-                &self.case.keys,
-                |set, turn| _ = set.insert(keys[turn]),
+                self.case.set(),
+                |set, turn| _ = set.insert(keys[turn], Measure::NONE),
                 |set, turn| _ = set.remove(&keys[turn]),
             ),
         )
@@ -148,7 +165,7 @@ impl<'a> Lent<'a> {
 
     /// A held key is deleted; restoring as for insert.
     fn delete(&'a self) -> Row<'a> {
-        let keys = &self.case.held;
+        let (keys, set) = (&self.case.held, self.case.set());
         self.row(
             "delete",
             changing(&self.table, |t, turn| {
@@ -158,9 +175,9 @@ impl<'a> Lent<'a> {
                 expect(0, fast::delete(t, keys[turn]).refusal)
             }),
             changing_set(
-                &self.case.keys,
+                set.clone(),
                 |set, turn| _ = set.remove(&keys[turn]),
-                |set, turn| _ = set.insert(keys[turn]),
+                move |now, turn| _ = now.insert(keys[turn], set[&keys[turn]]),
             ),
         )
     }
@@ -169,7 +186,7 @@ impl<'a> Lent<'a> {
     /// which is serialised and compared.
     fn read(&'a self) -> Row<'a> {
         let image = &self.image;
-        let bytes = serialised(&self.case.keys);
+        let bytes = serialised(&self.case.set());
         self.row(
             "read",
             over(&self.table, |t, _| {
@@ -179,7 +196,7 @@ impl<'a> Lent<'a> {
                 expect(0, fast::read_image(t, image).refusal)
             }),
             candidate(
-                Plain::new(&self.case.keys),
+                Plain::new(self.case.set()),
                 |plain, _, _| plain.set.clear(),
                 move |plain, _, _| {
                     plain.deserialise(black_box(&bytes));
@@ -202,8 +219,8 @@ impl<'a> Lent<'a> {
             asking((), |_, turn| {
                 expect(0, fast::look_up(table, keys[turn]).refusal)
             }),
-            asking(Plain::new(&self.case.keys), |plain, turn| {
-                black_box(plain.set.contains(&keys[turn]));
+            asking(Plain::new(self.case.set()), |plain, turn| {
+                black_box(plain.set.get(&keys[turn]));
                 assert!(plain.agrees());
             }),
         )
@@ -232,12 +249,12 @@ impl<'a> Lent<'a> {
                 expect(0, fast::range(table, low, high, out).refusal)
             }),
             asking(
-                (Plain::new(&self.case.keys), output()),
+                (Plain::new(self.case.set()), output()),
                 move |(plain, out), _| {
                     let keys = plain.set.range(low..=high);
                     out.iter_mut()
                         .zip(keys)
-                        .for_each(|(word, key)| *word = *key);
+                        .for_each(|(word, (key, _))| *word = *key);
                     assert!(plain.agrees());
                 },
             ),
@@ -258,7 +275,7 @@ impl<'a> Lent<'a> {
                 let place = calls::Place::new(keys[turn], u64::MAX);
                 expect(0, black_box(fast::step(table, place)).0.refusal);
             }),
-            asking(Plain::new(&self.case.keys), |plain, turn| {
+            asking(Plain::new(self.case.set()), |plain, turn| {
                 black_box(plain.set.range(keys[turn]..).next());
                 assert!(plain.agrees());
             }),
@@ -277,7 +294,7 @@ impl<'a> Lent<'a> {
             asking(output(), |out, _| {
                 expect(0, fast::write_image(table, out).refusal)
             }),
-            asking(Plain::new(&self.case.keys), |plain, _| {
+            asking(Plain::new(self.case.set()), |plain, _| {
                 assert!(plain.agrees())
             }),
         )
@@ -288,7 +305,7 @@ impl<'a> Lent<'a> {
     fn list(&'a self) -> Row<'a> {
         let image = &self.image;
         let output = || vec![0; self.text];
-        let bytes = serialised(&self.case.keys);
+        let bytes = serialised(&self.case.set());
         self.row(
             "list",
             asking(output(), |out, _| {
@@ -296,7 +313,7 @@ impl<'a> Lent<'a> {
             }),
             asking(output(), |out, _| expect(0, fast::list(image, out).refusal)),
             asking(
-                (Plain::new(&self.case.keys), String::new()),
+                (Plain::new(self.case.set()), String::new()),
                 move |(plain, text), _| {
                     plain.deserialise(black_box(&bytes));
                     assert!(plain.agrees());

@@ -40,7 +40,9 @@ fn run_once(call: &Call, table: &[u64], empty: Empty, flush: Flush) -> Outcome {
 /// All the memory that a call is lent; what it has no use for is empty.
 pub struct Lent {
     pub table: Pages<u64>,
-    pub list: Pages<u64>,
+    pub keys: Pages<u64>,
+    pub lengths: Pages<u64>,
+    pub corrections: Pages<i32>,
     pub image: Pages<u8>,
     pub words: Pages<u64>,
     pub bytes: Pages<u8>,
@@ -49,9 +51,12 @@ pub struct Lent {
 
 impl Lent {
     pub fn new(call: &Call, table: &[u64], flush: Flush) -> Lent {
+        let list = call.list();
         Lent {
             table: Pages::new(table, flush, call.table_access()),
-            list: Pages::new(call.list(), flush, Access::Read),
+            keys: Pages::new(&list.keys, flush, Access::Read),
+            lengths: Pages::new(&list.lengths, flush, Access::Read),
+            corrections: Pages::new(&list.corrections, flush, Access::Read),
             image: Pages::new(call.image(), flush, Access::Read),
             words: Pages::new(&call.output_words(), flush, Access::Write),
             bytes: Pages::new(&call.output_bytes(), flush, Access::Write),
@@ -62,7 +67,6 @@ impl Lent {
     /// The reply, and the place after a step.
     fn make(&self, call: &Call, empty: Empty) -> (Reply, Option<Place>) {
         let (t, n) = lend(&self.table, empty);
-        let (keys, number) = lend(&self.list, empty);
         let (image, length) = lend(&self.image, empty);
         let (words, _) = lend(&self.words, empty);
         let (bytes, _) = lend(&self.bytes, empty);
@@ -71,11 +75,13 @@ impl Lent {
         let reply = unsafe {
             match *call {
                 Call::SetUp { order } => plain(sys::btreap_set_up(t, n, order)),
-                Call::Build { order, .. } => plain(sys::btreap_build(t, n, order, keys, number)),
+                Call::Build { order, .. } => plain(self.build(order, empty)),
                 Call::Load { order, seed, count } => {
                     plain(sys::btreap_load(t, n, order, seed, count))
                 }
-                Call::Insert { key } => ranked(sys::btreap_insert(t, n, key)),
+                Call::Insert { key, measure: m } => {
+                    ranked(sys::btreap_insert(t, n, key, m.length, m.correction))
+                }
                 Call::Delete { key } => ranked(sys::btreap_delete(t, n, key)),
                 Call::LookUp { key } => found(sys::btreap_lookup(t, n, key)),
                 Call::LookUpBatch { .. } => sized(sys::btreap_lookup_batch(t, n, questions, lines)),
@@ -91,6 +97,29 @@ impl Lent {
             }
         };
         (reply, None)
+    }
+
+    /// The refusal of a build from the lists.
+    ///
+    /// # Safety
+    ///
+    /// Nobody else uses the table.
+    unsafe fn build(&self, order: u64, empty: Empty) -> u64 {
+        let (t, n) = lend(&self.table, empty);
+        let (keys, number) = lend(&self.keys, empty);
+        let (lengths, as_many) = lend(&self.lengths, empty);
+        let (corrections, too) = lend(&self.corrections, empty);
+        sys::btreap_build(
+            t,
+            n,
+            order,
+            keys,
+            number,
+            lengths,
+            as_many,
+            corrections,
+            too,
+        )
     }
 
     /// The memory that was written though the call had no business there.
@@ -138,8 +167,15 @@ fn found(reply: sys::FoundReply) -> Reply {
             ("count", reply.count),
             ("leader", reply.leader),
             ("blocks", reply.blocks),
+            ("length", reply.length),
+            ("correction", bits(reply.correction)),
         ],
     }
+}
+
+/// A signed number, by its bits.
+pub fn bits(number: i64) -> u64 {
+    number as u64
 }
 
 fn sized(reply: sys::SizedReply) -> Reply {

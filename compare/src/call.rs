@@ -1,8 +1,10 @@
 //! The twelve calls, each with all that it is given but the table.
 
+use crate::list::List;
 use crate::pages::Access;
 use btreap::Question;
 use reference::calls;
+use reference::measure::Measure;
 use std::fmt;
 
 /// The three numbers of a place as they are handed to a step. A mark that is
@@ -35,9 +37,9 @@ impl Place {
 #[derive(Clone, PartialEq, Eq)]
 pub enum Call {
     SetUp { order: u64 },
-    Build { order: u64, list: Vec<u64> },
+    Build { order: u64, list: List },
     Load { order: u64, seed: u64, count: u16 },
-    Insert { key: u64 },
+    Insert { key: u64, measure: Measure },
     Delete { key: u64 },
     LookUp { key: u64 },
     LookUpBatch { keys: Vec<u64> },
@@ -49,6 +51,18 @@ pub enum Call {
 }
 
 impl Call {
+    /// The insert of a key that is not measured.
+    pub const fn insert(key: u64) -> Call {
+        let measure = Measure::NONE;
+        Call::Insert { key, measure }
+    }
+
+    /// The build of keys of which none is measured.
+    pub fn build(order: u64, keys: &[u64]) -> Call {
+        let list = List::unmeasured(keys);
+        Call::Build { order, list }
+    }
+
     /// What the call is lent the table for.
     pub fn table_access(&self) -> Access {
         match self {
@@ -60,11 +74,11 @@ impl Call {
         }
     }
 
-    /// The keys that the call is lent to read.
-    pub fn list(&self) -> &[u64] {
+    /// The keys, lengths and corrections that the call is lent to read.
+    pub fn list(&self) -> List {
         match self {
-            Call::Build { list, .. } => list,
-            _ => &[],
+            Call::Build { list, .. } => list.clone(),
+            _ => List::default(),
         }
     }
 
@@ -122,13 +136,15 @@ impl fmt::Debug for Call {
     fn fmt(&self, out: &mut fmt::Formatter) -> fmt::Result {
         match self {
             Call::SetUp { order } => write!(out, "set-up, order {order}"),
-            Call::Build { order, list } => {
-                write!(out, "build, order {order}, list {}", short(list))
-            }
+            Call::Build { order, list } => write!(out, "build, order {order}, {list:?}"),
             Call::Load { order, seed, count } => {
                 write!(out, "load, order {order}, {count} operations from {seed}")
             }
-            Call::Insert { key } => write!(out, "insert {key}"),
+            Call::Insert { key, measure } => write!(
+                out,
+                "insert {key}, length {}, correction {}",
+                measure.length, measure.correction
+            ),
             Call::Delete { key } => write!(out, "delete {key}"),
             Call::LookUp { key } => write!(out, "look-up {key}"),
             Call::LookUpBatch { keys } => write!(out, "look-up of a batch, {}", short(keys)),
@@ -152,7 +168,7 @@ fn painted_word(place: usize) -> u64 {
 }
 
 /// Numbers up to some length, then how many there are.
-pub fn short(numbers: &[u64]) -> String {
+pub fn short<T: fmt::Debug>(numbers: &[T]) -> String {
     const SHOWN: usize = 40;
     match numbers.get(..SHOWN) {
         None => format!("{numbers:?}"),

@@ -6,7 +6,8 @@ use crate::call::{short, Call};
 use crate::outcome::{differences, refusal_faults, Outcome};
 use crate::random::Random;
 use crate::second_program::run_second_program;
-use crate::tables::{keys_in, slots_of, sound_table};
+use crate::tables::{keys_in, measured_table, slots_of, sound_table};
+use reference::Set;
 use std::panic::{catch_unwind, AssertUnwindSafe};
 use std::time::Instant;
 
@@ -82,9 +83,14 @@ pub struct Case<'a> {
 }
 
 impl Case<'_> {
-    /// Lends a sound table from now on.
+    /// Lends a sound table from now on, none of its keys measured.
     pub fn lend_sound(&mut self, slots: usize, order: u64, keys: &[u64]) {
         self.table = sound_table(slots, order, keys);
+    }
+
+    /// The same with measures.
+    pub fn lend_measured(&mut self, slots: usize, order: u64, set: &Set) {
+        self.table = measured_table(slots, order, set);
     }
 
     /// Makes the call by both programs and compares.

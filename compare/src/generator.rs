@@ -3,9 +3,11 @@
 
 use crate::batches::random_batch;
 use crate::call::{Call, Place};
+use crate::list::List;
+use crate::measures::{self, random_set, spoil_measures};
 use crate::outcome::Outcome;
 use crate::random::Random;
-use crate::tables::{image_of, keys_in, listing_length};
+use crate::tables::{image_length, keys_in, listing_length, measured_image, set_in};
 
 /// How many of a hundred calls are of each kind.
 const SHARES: [(usize, Kind); 12] = [
@@ -82,6 +84,7 @@ impl Generator {
             Kind::Load => load(order(random), random),
             Kind::Insert => Call::Insert {
                 key: self.key(&held, 4, random),
+                measure: measures::any(10, random),
             },
             Kind::Delete => Call::Delete {
                 key: self.key(&held, 1, random),
@@ -93,10 +96,10 @@ impl Generator {
             Kind::Range => self.range(&held, random),
             Kind::Step => self.step(&held, random),
             Kind::Write => Call::Write {
-                room: room(image_of(table[0], &held).len(), random),
+                room: room(image_length(table), random),
             },
             Kind::Read => Call::Read {
-                image: self.image(table, &held, random),
+                image: self.image(table, random),
             },
             Kind::List => self.list_image(random),
         }
@@ -118,15 +121,20 @@ impl Generator {
         }
     }
 
-    /// A list to build from: now and then too long, or with a fault.
-    fn list(&self, random: &mut Random) -> Vec<u64> {
+    /// Lists to build from: now and then too long, or with a fault of the keys or of
+    /// the measures, or both.
+    fn list(&self, random: &mut Random) -> List {
         let number = match random.below(8) {
             0 => self.slots + 1,
             _ => random.fill(self.slots),
         };
-        let mut list = random.keys(number);
+        let keys = random.keys(number);
+        let mut list = List::of(&random_set(&keys, random));
         if random.once_in(6) {
-            spoil_list(&mut list, random);
+            spoil_measures(&mut list, random);
+        }
+        if random.once_in(6) {
+            spoil_list(&mut list.keys, random);
         }
         list
     }
@@ -157,15 +165,16 @@ impl Generator {
 
     /// An image to read: the table's own, or another's, which may have more
     /// keys than slots or have a fault.
-    fn image(&self, table: &[u64], held: &[u64], random: &mut Random) -> Vec<u8> {
+    fn image(&self, table: &[u64], random: &mut Random) -> Vec<u8> {
         if random.once_in(6) {
-            return image_of(table[0], held);
+            return measured_image(table[0], &set_in(table));
         }
         let number = match random.below(6) {
             0 => self.slots + 1 + random.below(3),
             _ => random.fill(self.slots),
         };
-        let mut image = image_of(random.order(), &random.keys(number));
+        let keys = random.keys(number);
+        let mut image = measured_image(random.order(), &random_set(&keys, random));
         if random.once_in(5) {
             spoil_image(&mut image, random);
         }
@@ -175,7 +184,7 @@ impl Generator {
     fn list_image(&self, random: &mut Random) -> Call {
         let number = random.fill(self.slots);
         let (order, keys) = (random.order(), random.keys(number));
-        let mut image = image_of(order, &keys);
+        let mut image = measured_image(order, &random_set(&keys, random));
         let room = room(listing_length(order, &keys), random);
         if random.once_in(5) {
             spoil_image(&mut image, random);

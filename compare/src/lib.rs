@@ -7,6 +7,8 @@ pub mod call;
 pub mod case;
 pub mod generator;
 pub mod keys;
+pub mod list;
+pub mod measures;
 pub mod options;
 pub mod outcome;
 pub mod pages;

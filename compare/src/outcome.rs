@@ -4,7 +4,7 @@ use crate::call::{Call, Place};
 use btreap::Question;
 use std::fmt::Debug;
 
-/// The numbers of a reply. A refusal of 0 is acceptance.
+/// The numbers of a reply, a signed one by its bits. A refusal of 0 is acceptance.
 #[derive(Clone, Debug, PartialEq, Eq)]
 pub struct Reply {
     pub refusal: u64,

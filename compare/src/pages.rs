@@ -54,6 +54,7 @@ pub enum Access {
 /// What can be lent: any bits are one.
 pub trait Cell: Copy {}
 impl Cell for u64 {}
+impl Cell for i32 {}
 impl Cell for u8 {}
 impl Cell for Question {}
 
@@ -77,7 +78,7 @@ impl<T: Cell> Pages<T> {
         let open = map(size);
         // SAFETY: both places are within the pages, which are ours; cells are
         // aligned there, since a page and a cell are whole numbers of words, or
-        // cells are bytes.
+        // of what the cell is aligned to.
         let start = unsafe {
             let paint = open.add(painted.start);
             ptr::copy_nonoverlapping(PAINT.as_ptr(), paint, painted.len());

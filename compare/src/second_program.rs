@@ -1,6 +1,8 @@
 //! A call of the second program.
 
+use crate::archive::bits;
 use crate::call::{Call, Place};
+use crate::list::List;
 use crate::outcome::{Outcome, Reply};
 use btreap::Question;
 use reference::batch;
@@ -11,11 +13,11 @@ pub fn run_second_program(call: &Call, table: &[u64]) -> Outcome {
     let mut after = Outcome::untouched(call, table);
     after.reply = match call {
         Call::SetUp { order } => plain(REAL.set_up(&mut after.table, *order)),
-        Call::Build { order, list } => plain(REAL.build(&mut after.table, *order, list)),
+        Call::Build { order, list } => plain(build(&mut after.table, *order, list)),
         Call::Load { order, seed, count } => {
             plain(REAL.load(&mut after.table, *order, *seed, *count))
         }
-        Call::Insert { key } => ranked(REAL.insert(&mut after.table, *key)),
+        Call::Insert { key, measure } => ranked(REAL.insert(&mut after.table, *key, *measure)),
         Call::Delete { key } => ranked(REAL.delete(&mut after.table, *key)),
         Call::LookUp { key } => found(REAL.look_up(table, *key)),
         Call::LookUpBatch { .. } => look_up_batch(table, &mut after.questions),
@@ -26,6 +28,10 @@ pub fn run_second_program(call: &Call, table: &[u64]) -> Outcome {
         Call::List { image, .. } => sized(REAL.list(image, &mut after.bytes)),
     };
     after
+}
+
+fn build(table: &mut [u64], order: u64, list: &List) -> PlainReply {
+    REAL.build(table, order, &list.keys, &list.lengths, &list.corrections)
 }
 
 /// The second program has a record of its own for a question.
@@ -79,6 +85,8 @@ fn found(reply: LookUpReply) -> Reply {
             ("count", reply.count),
             ("leader", reply.leader),
             ("blocks", reply.blocks),
+            ("length", reply.measure.length),
+            ("correction", bits(reply.measure.correction.into())),
         ],
     }
 }

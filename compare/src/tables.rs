@@ -1,9 +1,10 @@
 //! Tables and images that the sections begin with, and what can be read off
 //! them.
 
+use reference::measure::Measure;
 use reference::priority::priority;
 use reference::table::{self, HEADER_WORDS, SLOT_WORDS};
-use reference::{image, listing, Contents};
+use reference::{image, listing, Contents, Set};
 
 /// The length of a table of so many slots.
 pub fn table_length(slots: usize) -> usize {
@@ -15,24 +16,35 @@ pub fn slots_of(table: &[u64]) -> Option<usize> {
     table::slots_of_length(table.len())
 }
 
-fn contents(order: u64, keys: &[u64]) -> Contents {
-    let keys = keys.to_vec();
-    Contents { order, keys }
+fn measured(order: u64, set: &Set) -> Contents {
+    let set = set.clone();
+    Contents { order, set }
 }
 
-/// The sound table of an order and rising keys.
+/// The sound table of an order and rising keys, none of them measured.
 pub fn sound_table(slots: usize, order: u64, keys: &[u64]) -> Vec<u64> {
-    table::words(&priority, &contents(order, keys), slots)
+    table::words(&priority, &Contents::unmeasured(order, keys), slots)
 }
 
-/// The image of an order and rising keys.
+/// The sound table of an order and a set.
+pub fn measured_table(slots: usize, order: u64, set: &Set) -> Vec<u64> {
+    table::words(&priority, &measured(order, set), slots)
+}
+
+/// The image of an order and rising keys, none of them measured.
 pub fn image_of(order: u64, keys: &[u64]) -> Vec<u8> {
-    image::image(&priority, &contents(order, keys))
+    image::image(&priority, &Contents::unmeasured(order, keys))
 }
 
-/// The length of the text of the image of an order and rising keys.
+/// The image of an order and a set.
+pub fn measured_image(order: u64, set: &Set) -> Vec<u8> {
+    image::image(&priority, &measured(order, set))
+}
+
+/// The length of the text of the image of an order and rising keys; measures do
+/// not show in it.
 pub fn listing_length(order: u64, keys: &[u64]) -> usize {
-    listing::listing(&priority, &contents(order, keys)).len()
+    listing::listing(&priority, &Contents::unmeasured(order, keys)).len()
 }
 
 /// How many blocks an order and rising keys have, as their image says.
@@ -44,7 +56,7 @@ pub fn blocks_of(order: u64, keys: &[u64]) -> u64 {
 /// The keys that a lookup compares in a table of an order and rising keys; here
 /// they rise too.
 pub fn path_of(order: u64, keys: &[u64], key: u64) -> Vec<u64> {
-    let shape = table::shape_of(&priority, &contents(order, keys));
+    let shape = table::shape_of(&priority, &Contents::unmeasured(order, keys));
     let mut path = shape.path(key);
     path.sort_unstable();
     path
@@ -58,9 +70,35 @@ pub fn keys_in(table: &[u64]) -> Vec<u64> {
     keys
 }
 
+/// The keys in the slots of a sound table, with their measures.
+pub fn set_in(table: &[u64]) -> Set {
+    let slots = table[HEADER_WORDS..].chunks(SLOT_WORDS);
+    let held = slots.filter(|slot| slot[0] != 0);
+    held.map(|slot| (slot[0], measure_in(slot))).collect()
+}
+
+fn measure_in(slot: &[u64]) -> Measure {
+    Measure::of_words([slot[6], slot[7]]).expect("the table is sound")
+}
+
+/// The length of the image of a sound table.
+pub fn image_length(table: &[u64]) -> usize {
+    measured_image(table[0], &set_in(table)).len()
+}
+
 /// The word in which a slot begins with its key.
 pub fn slot_start(slot: usize) -> usize {
     HEADER_WORDS + SLOT_WORDS * slot
+}
+
+/// The word in which a slot has its length; the stored correction is the next.
+pub fn length_word(slot: usize) -> usize {
+    slot_start(slot) + 6
+}
+
+/// Whether a table has a length or a stored correction in that word.
+pub fn is_measure_word(word: usize) -> bool {
+    word >= HEADER_WORDS && (word - HEADER_WORDS) % SLOT_WORDS >= 6
 }
 
 /// A table that is not sound: the number of keys is not that of any table.

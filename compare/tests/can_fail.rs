@@ -93,7 +93,27 @@ fn each_wrong_number_of_a_reply_is_caught() {
         });
     }
     // Insert, delete, look-up, batch, range, step, writing, listing, twice.
-    assert_eq!(fields, 2 * (1 + 1 + 5 + 1 + 1 + 2 + 1 + 1));
+    assert_eq!(fields, 2 * (1 + 1 + 7 + 1 + 1 + 2 + 1 + 1));
+}
+
+/// A correction below zero is compared by all its bits.
+#[test]
+fn a_wrong_measure_of_a_lookup_is_caught() {
+    let call = Call::LookUp { key: 21 };
+    let [outcome, _] = run_archive(&call, &table(), Empty::Address);
+    let numbers = outcome.reply.numbers[5..].to_vec();
+    let correction = -120i64;
+    assert_eq!(
+        numbers,
+        [("length", 26_500), ("correction", correction as u64)]
+    );
+    let changes: [fn(u64) -> u64; 3] = [|n| n as u32 as u64, |n| n.wrapping_neg(), |_| 0];
+    for change in changes {
+        caught(&call, &table(), |outcome| {
+            let given = &mut outcome.reply.numbers[6].1;
+            *given = change(*given);
+        });
+    }
 }
 
 #[test]
@@ -226,8 +246,8 @@ fn a_refusal_other_than_the_one_due_is_caught() {
     let mut tally = Tally::new("can-fail", Plan::default());
     tally.case(|case| {
         case.lend_sound(2, 3, &[4]);
-        case.refused(Call::Insert { key: 4 }, 8);
-        case.refused(Call::Insert { key: 4 }, 10);
+        case.refused(Call::insert(4), 8);
+        case.refused(Call::insert(4), 10);
     });
     assert_eq!((tally.calls, tally.failed), (2, 1));
 }

@@ -76,6 +76,9 @@ fn a_touch_beside_the_content_is_fatal() {
     for length in [1, 15, 4095, 4096, 4097] {
         is_guarded(&vec![7u8; length]);
     }
+    for length in [1, 3, 1023, 1024, 1025] {
+        is_guarded(&vec![-7i32; length]);
+    }
     for length in [1, 2, 170, 171, 512] {
         is_guarded(&vec![Question::new(7); length]);
     }
@@ -104,7 +107,9 @@ fn a_write_is_fatal_to_what_the_call_only_reads() {
         );
         let end = if changes { None } else { FATAL };
         assert_eq!(writing(&lent.table, 0), end, "{call:?}");
-        assert_eq!(writing(&lent.list, 0), FATAL, "{call:?}");
+        assert_eq!(writing(&lent.keys, 0), FATAL, "{call:?}");
+        assert_eq!(writing(&lent.lengths, 0), FATAL, "{call:?}");
+        assert_eq!(writing(&lent.corrections, 0), FATAL, "{call:?}");
         assert_eq!(writing(&lent.image, 0), FATAL, "{call:?}");
         let asks = matches!(call, Call::LookUpBatch { .. });
         let end = if asks { None } else { FATAL };

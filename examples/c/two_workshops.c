@@ -20,21 +20,45 @@ static void accept(const char *call, uint64_t refusal)
     }
 }
 
-/* The first workshop inserts keys one by one, one too many, and deletes that one. */
+/* The first workshop inserts keys one by one, one too many, and deletes that one. Lasts 512 and 41 are measured. */
 static void first_workshop(uint64_t *table)
 {
-    static const uint64_t keys[] = { 512, 7, 99, 3000, 41, 8 };
+    static const uint64_t keys[] = { 7, 99, 3000, 8 };
     accept("set-up", btreap_set_up(table, WORDS, 3));
+    accept("insert", btreap_insert(table, WORDS, 512, 26500, -120).refusal);
     for (size_t i = 0; i < sizeof keys / sizeof keys[0]; i++)
-        accept("insert", btreap_insert(table, WORDS, keys[i]).refusal);
+        accept("insert", btreap_insert(table, WORDS, keys[i], BTREAP_NOT_MEASURED, 0).refusal);
+    accept("insert", btreap_insert(table, WORDS, 41, 31000, 45).refusal);
     accept("delete", btreap_delete(table, WORDS, 99).refusal);
 }
 
-/* The second builds its table from a rising list. */
+/* The second builds its table from a rising list of keys, and their lengths and corrections. */
 static void second_workshop(uint64_t *table)
 {
     static const uint64_t keys[] = { 7, 8, 41, 512, 3000 };
-    accept("build", btreap_build(table, WORDS, 3, keys, sizeof keys / sizeof keys[0]));
+    static const uint64_t lengths[] = { 0, 0, 31000, 26500, 0 };
+    static const int32_t corrections[] = { 0, 0, 45, -120, 0 };
+    accept("build", btreap_build(table, WORDS, 3, keys, 5, lengths, 5, corrections, 5));
+}
+
+/* What a lookup says of a key. */
+static void look_up(const uint64_t *table, uint64_t key)
+{
+    struct btreap_found found = btreap_lookup(table, WORDS, key);
+    accept("lookup", found.refusal);
+    printf("%" PRIu64 ": held %" PRIu64 ", rank %" PRIu64 ", count %" PRIu64 ", leader %" PRIu64 ", blocks %" PRIu64, key, found.held,
+           found.rank, found.count, found.leader, found.blocks);
+    if (found.length == BTREAP_NOT_MEASURED)
+        printf(", not measured\n");
+    else
+        printf(", length %" PRIu64 ", correction %" PRId64 "\n", found.length, found.correction);
+}
+
+/* A measure outside the rules is turned down, and so is another one for a key that is held. */
+static void wrong_measures(uint64_t *table)
+{
+    printf("length 9999: refused, %" PRIu64 "\n", btreap_insert(table, WORDS, 100, BTREAP_LEAST_LENGTH - 1, 0).refusal);
+    printf("another measure: refused, %" PRIu64 "\n", btreap_insert(table, WORDS, 512, 26501, -120).refusal);
 }
 
 /* Every key of a table, step by step. */
@@ -97,11 +121,10 @@ int main(void)
     printf("image: %" PRIu64 " bytes\n", sent.size);
     printf("images agree: %s\n", sent.size == kept.size && memcmp(one, other, sent.size) == 0 ? "yes" : "no");
 
-    struct btreap_found found = btreap_lookup(first, WORDS, 512);
-    accept("lookup", found.refusal);
-    printf("512: held %" PRIu64 ", rank %" PRIu64 ", count %" PRIu64 ", leader %" PRIu64 ", blocks %" PRIu64 "\n", found.held, found.rank,
-           found.count, found.leader, found.blocks);
+    look_up(first, 512);
+    look_up(first, 3000);
     look_up_together(first);
+    wrong_measures(first);
 
     accept("read", btreap_read(third, WORDS, one, sent.size));
     printf("read back: %s\n", memcmp(third, first, sizeof first) == 0 ? "yes" : "no");

@@ -1,17 +1,19 @@
 //! The calls of document 01 and the load of document 02, each with its
-//! refusals; document 02's batch is in [`crate::batch`]. "A refusal returns its number, all other numbers zero, and changes
-//! no lent memory, the place included. The lowest number that applies is
-//! returned."
+//! refusals, inserts, builds and lookups with the measures of document 02; its batch
+//! is in [`crate::batch`]. "A refusal returns its number, all other numbers zero, and
+//! changes no lent memory, the place included. The lowest number that applies is
+//! returned", but for 12, "checked straight after 5, on insert after 3".
 
 use crate::blocks::blocks_met;
 use crate::image::{contents_of, image};
 use crate::listing::listing;
 use crate::load::end_set;
+use crate::measure::Measure;
 use crate::priority::{priority, Priority};
 use crate::table::{self, shape_of, slots_of_length, words};
-use crate::{is_order, Contents};
+use crate::{is_order, Contents, Set};
 
-/// 1. Table length is not 3 + 6·M.
+/// 1. Table length is not 3 + 8·M.
 pub const TABLE_LENGTH: u64 = 1;
 /// 2. Order outside 3 to 255.
 pub const ORDER: u64 = 2;
@@ -35,6 +37,8 @@ pub const ABSENT: u64 = 9;
 pub const TOO_MANY: u64 = 10;
 /// 11. The output slice is shorter than the output.
 pub const OUTPUT_SHORT: u64 = 11;
+/// 12. "12 for a measure outside these rules, missing or left over".
+pub const MEASURE: u64 = 12;
 
 /// Reply of set-up, build, reading and load: "A call for which no number is named
 /// gives none when accepted." Refusal 0 is acceptance, here and below.
@@ -58,6 +62,7 @@ pub struct LookUpReply {
     pub count: u64,
     pub leader: u64,
     pub blocks: u64,
+    pub measure: Measure,
 }
 
 /// Reply of range (the number of keys), writing (bytes) and listing (bytes).
@@ -136,6 +141,19 @@ pub(crate) fn is_rising(list: &[u64]) -> bool {
     list.windows(2).all(|pair| pair[0] < pair[1]) && !list.contains(&0)
 }
 
+/// The measures of so many keys, or refusal 12: "a measure outside these rules,
+/// missing or left over".
+fn measures_for(number: usize, lengths: &[u64], corrections: &[i32]) -> Outcome<Vec<Measure>> {
+    refuse_if(lengths.len() != number, MEASURE)?;
+    refuse_if(corrections.len() != number, MEASURE)?;
+    let pairs = lengths.iter().zip(corrections);
+    let measures: Vec<Measure> = pairs
+        .map(|(&length, &correction)| Measure::new(length, correction))
+        .collect();
+    refuse_if(!measures.iter().all(|measure| measure.is_right()), MEASURE)?;
+    Ok(measures)
+}
+
 impl Index<'_> {
     /// The order and set of a sound table; none for an unsound one.
     pub fn sound(&self, table: &[u64]) -> Option<Contents> {
@@ -162,24 +180,44 @@ impl Index<'_> {
     fn try_set_up(&self, table: &mut [u64], order: u64) -> Outcome<()> {
         let m = slots(table)?;
         refuse_if(!is_order(order), ORDER)?;
-        let keys = vec![];
-        self.write(table, m, &Contents { order, keys });
+        self.write(table, m, &Contents::unmeasured(order, &[]));
         Ok(())
     }
 
     /// "Build takes a strictly rising list of non-zero keys, perhaps empty."
-    /// "build 1, 2, 5, 10"
-    pub fn build(&self, table: &mut [u64], order: u64, list: &[u64]) -> PlainReply {
-        plain(self.try_build(table, order, list))
+    /// "Inserts, build lists and lookups carry" measures. "build 1, 2, 5, 10", and 12
+    /// "checked straight after 5"
+    pub fn build(
+        &self,
+        table: &mut [u64],
+        order: u64,
+        keys: &[u64],
+        lengths: &[u64],
+        corrections: &[i32],
+    ) -> PlainReply {
+        plain(self.try_build(table, order, keys, (lengths, corrections)))
     }
 
-    fn try_build(&self, table: &mut [u64], order: u64, list: &[u64]) -> Outcome<()> {
+    /// The build of keys of which none is measured.
+    pub fn build_unmeasured(&self, table: &mut [u64], order: u64, keys: &[u64]) -> PlainReply {
+        let (lengths, corrections) = (vec![0; keys.len()], vec![0; keys.len()]);
+        self.build(table, order, keys, &lengths, &corrections)
+    }
+
+    fn try_build(
+        &self,
+        table: &mut [u64],
+        order: u64,
+        keys: &[u64],
+        (lengths, corrections): (&[u64], &[i32]),
+    ) -> Outcome<()> {
         let m = slots(table)?;
         refuse_if(!is_order(order), ORDER)?;
-        refuse_if(!is_rising(list), NOT_RISING)?;
-        refuse_if(list.len() > m, TOO_MANY)?;
-        let keys = list.to_vec();
-        self.write(table, m, &Contents { order, keys });
+        refuse_if(!is_rising(keys), NOT_RISING)?;
+        let measures = measures_for(keys.len(), lengths, corrections)?;
+        refuse_if(keys.len() > m, TOO_MANY)?;
+        let set: Set = keys.iter().copied().zip(measures).collect();
+        self.write(table, m, &Contents { order, set });
         Ok(())
     }
 
@@ -193,23 +231,31 @@ impl Index<'_> {
     fn try_load(&self, table: &mut [u64], order: u64, seed: u64, count: u16) -> Outcome<()> {
         let m = slots(table)?;
         refuse_if(!is_order(order), ORDER)?;
-        let keys = end_set(m, seed, count).into_iter().collect();
-        self.write(table, m, &Contents { order, keys });
+        // "a load's keys are unmeasured"
+        let keys: Vec<u64> = end_set(m, seed, count).into_iter().collect();
+        self.write(table, m, &Contents::unmeasured(order, &keys));
         Ok(())
     }
 
-    /// "Insert and delete give the key's rank" "insert 1, 3, 7, 8, 10"
-    pub fn insert(&self, table: &mut [u64], key: u64) -> RankReply {
-        ranked(self.try_insert(table, key))
+    /// "Insert and delete give the key's rank" "insert 1, 3, 7, 8, 10", and 12 "on
+    /// insert after 3"
+    pub fn insert(&self, table: &mut [u64], key: u64, measure: Measure) -> RankReply {
+        ranked(self.try_insert(table, key, measure))
     }
 
-    fn try_insert(&self, table: &mut [u64], key: u64) -> Outcome<u64> {
+    /// The insert of a key that is not measured.
+    pub fn insert_unmeasured(&self, table: &mut [u64], key: u64) -> RankReply {
+        self.insert(table, key, Measure::NONE)
+    }
+
+    fn try_insert(&self, table: &mut [u64], key: u64, measure: Measure) -> Outcome<u64> {
         let m = slots(table)?;
         refuse_if(key == 0, KEY_ZERO)?;
+        refuse_if(!measure.is_right(), MEASURE)?;
         let mut contents = self.contents(table)?;
-        let place = contents.keys.binary_search(&key).err().ok_or(HELD)?;
-        refuse_if(contents.keys.len() + 1 > m, TOO_MANY)?;
-        contents.keys.insert(place, key);
+        refuse_if(contents.set.contains_key(&key), HELD)?;
+        refuse_if(contents.set.len() + 1 > m, TOO_MANY)?;
+        contents.set.insert(key, measure);
         self.write(table, m, &contents);
         Ok(self.rank(&contents, key))
     }
@@ -223,9 +269,9 @@ impl Index<'_> {
         let m = slots(table)?;
         refuse_if(key == 0, KEY_ZERO)?;
         let mut contents = self.contents(table)?;
-        let place = contents.keys.binary_search(&key).or(Err(ABSENT))?;
+        refuse_if(!contents.set.contains_key(&key), ABSENT)?;
         let rank = self.rank(&contents, key);
-        contents.keys.remove(place);
+        contents.set.remove(&key);
         self.write(table, m, &contents);
         Ok(rank)
     }
@@ -236,7 +282,8 @@ impl Index<'_> {
 
     /// "Lookup gives held or absent, and rank, count and leader (zeros when
     /// absent). It also gives the number of different blocks that hold the keys
-    /// it compares on its way down." "lookup 1, 3, 7"
+    /// it compares on its way down." And the measure, zeros when absent.
+    /// "lookup 1, 3, 7"
     pub fn look_up(&self, table: &[u64], key: u64) -> LookUpReply {
         self.try_look_up(table, key)
             .unwrap_or_else(|refusal| LookUpReply {
@@ -248,7 +295,8 @@ impl Index<'_> {
     fn try_look_up(&self, table: &[u64], key: u64) -> Outcome<LookUpReply> {
         slots(table)?;
         refuse_if(key == 0, KEY_ZERO)?;
-        let shape = shape_of(self.priority, &self.contents(table)?);
+        let contents = self.contents(table)?;
+        let shape = shape_of(self.priority, &contents);
         let absent = LookUpReply {
             blocks: blocks_met(&shape, key),
             ..Default::default()
@@ -260,6 +308,7 @@ impl Index<'_> {
                 rank: node.rank,
                 count: node.count,
                 leader: node.leader,
+                measure: contents.set[&key],
                 ..absent
             },
         })
@@ -276,7 +325,7 @@ impl Index<'_> {
         refuse_if(low > high, LOW_ABOVE_HIGH)?;
         let contents = self.contents(table)?;
         let within = |key: &u64| low <= *key && *key <= high;
-        let keys: Vec<u64> = contents.keys.into_iter().filter(within).collect();
+        let keys: Vec<u64> = contents.set.into_keys().filter(within).collect();
         write_first(output, &keys)
     }
 
@@ -305,7 +354,7 @@ impl Index<'_> {
             ..place
         };
         let within = |key: &&u64| place.next <= **key && **key <= place.high;
-        Ok(match contents.keys.iter().find(within) {
+        Ok(match contents.set.keys().find(within) {
             // "If there is none it sets done and answers end."
             None => (end, spent),
             Some(&key) => {
@@ -345,7 +394,7 @@ impl Index<'_> {
     fn try_read_image(&self, table: &mut [u64], bytes: &[u8]) -> Outcome<()> {
         let m = slots(table)?;
         let contents = contents_of(self.priority, bytes).ok_or(IMAGE)?;
-        refuse_if(contents.keys.len() > m, TOO_MANY)?;
+        refuse_if(contents.set.len() > m, TOO_MANY)?;
         self.write(table, m, &contents);
         Ok(())
     }

@@ -1,14 +1,16 @@
-//! Document 01, section "Image".
+//! Document 01, section "Image", with the measures of document 02.
 
 use crate::blocks::blocks;
+use crate::measure::Measure;
 use crate::priority::Priority;
+use crate::shape::Node;
 use crate::table::shape_of;
-use crate::{is_order, Contents, MOST_SLOTS};
-use std::collections::BTreeSet;
+use crate::{is_order, Contents, Set, MOST_SLOTS};
 
 const HEADER: usize = 15;
 const BLOCK: usize = 14;
 const NODE: usize = 30;
+const MEASURED_NODE: usize = 36;
 
 /// The image of an order and a set. "One header, then blocks by falling level,
 /// then rising leader; after each block its keys, rising."
@@ -19,7 +21,7 @@ pub fn image(priority: Priority, contents: &Contents) -> Vec<u8> {
     // "`LH`: order (1 byte), n (2), blocks (2), root key (8)."
     bytes.extend(b"LH");
     bytes.push(u8::try_from(contents.order).unwrap());
-    bytes.extend(two(contents.keys.len() as u64));
+    bytes.extend(two(contents.set.len() as u64));
     bytes.extend(two(blocks.len() as u64));
     bytes.extend(eight(shape.root));
     for block in &blocks {
@@ -28,28 +30,47 @@ pub fn image(priority: Priority, contents: &Contents) -> Vec<u8> {
         bytes.extend(eight(block.leader));
         bytes.extend(two(block.level));
         bytes.extend(two(block.keys.len() as u64));
-        for &key in &block.keys {
-            // "`LN`: key (8), left (8), right (8), rank (2), count (2)."
-            let node = shape.node(key).unwrap();
-            bytes.extend(b"LN");
-            bytes.extend(eight(node.key));
-            bytes.extend(eight(node.left));
-            bytes.extend(eight(node.right));
-            bytes.extend(two(node.rank));
-            bytes.extend(two(node.count));
+        for key in &block.keys {
+            bytes.extend(node(shape.node(*key).unwrap(), contents.set[key]));
         }
     }
-    // "Length is 15 + 14·b + 30·n"
-    assert_eq!(
-        bytes.len(),
-        HEADER + BLOCK * blocks.len() + NODE * contents.keys.len()
-    );
+    assert_eq!(bytes.len(), length(contents, blocks.len()));
     bytes
+}
+
+/// "`LN`: key (8), left (8), right (8), rank (2), count (2)." "In images a measured
+/// key is written under `LM`, the `LN` fields and then length (4 bytes) and stored
+/// correction (2)"; "an unmeasured one stays `LN`".
+fn node(node: &Node, measure: Measure) -> Vec<u8> {
+    let mark = if measure.is_measured() { b"LM" } else { b"LN" };
+    let mut bytes = mark.to_vec();
+    bytes.extend(eight(node.key));
+    bytes.extend(eight(node.left));
+    bytes.extend(eight(node.right));
+    bytes.extend(two(node.rank));
+    bytes.extend(two(node.count));
+    if measure.is_measured() {
+        let [length, stored] = measure.words();
+        bytes.extend(four(length));
+        bytes.extend(two(stored));
+    }
+    bytes
+}
+
+/// "Length is 15 + 14·b + 30·n", and "6 bytes more" for each measured key.
+fn length(contents: &Contents, blocks: usize) -> usize {
+    let measures = contents.set.values();
+    let measured = measures.filter(|measure| measure.is_measured()).count();
+    HEADER + BLOCK * blocks + NODE * contents.set.len() + 6 * measured
 }
 
 /// "numbers are little-endian"
 fn two(number: u64) -> [u8; 2] {
     u16::try_from(number).unwrap().to_le_bytes()
+}
+
+fn four(number: u64) -> [u8; 4] {
+    u32::try_from(number).unwrap().to_le_bytes()
 }
 
 fn eight(number: u64) -> [u8; 8] {
@@ -60,33 +81,40 @@ fn eight(number: u64) -> [u8; 8] {
 /// that the writer makes for any order and any set of at most 4,096 keys".
 pub fn contents_of(priority: Priority, bytes: &[u8]) -> Option<Contents> {
     let contents = candidate(bytes)?;
-    let possible = is_order(contents.order) && contents.keys.len() <= MOST_SLOTS;
+    let possible = is_order(contents.order) && contents.set.len() <= MOST_SLOTS;
     (possible && image(priority, &contents) == bytes).then_some(contents)
 }
 
 /// The only order and set whose image the bytes can be: the header's order, and
-/// the key of each node record. None when the bytes are no sequence of records.
+/// the key and the measure of each node record. None when the bytes are no sequence
+/// of records, and where a measure is outside the rules.
 fn candidate(bytes: &[u8]) -> Option<Contents> {
     let order = *bytes.get(2)? as u64;
-    let mut keys = BTreeSet::new();
+    let mut set = Set::new();
     let mut rest = bytes.get(HEADER..)?;
     while !rest.is_empty() {
         if rest.starts_with(b"LB") {
             rest = rest.get(BLOCK..)?;
         } else if rest.starts_with(b"LN") {
-            let key = rest.get(2..10)?;
-            keys.insert(u64::from_le_bytes(key.try_into().unwrap()));
+            set.insert(number(rest.get(2..10)?), Measure::NONE);
             rest = rest.get(NODE..)?;
+        } else if rest.starts_with(b"LM") {
+            let words = [number(rest.get(30..34)?), number(rest.get(34..36)?)];
+            set.insert(number(&rest[2..10]), Measure::of_words(words)?);
+            rest = rest.get(MEASURED_NODE..)?;
         } else {
             return None;
         }
     }
     // "A key is a 64-bit unsigned number, 1 to 2^64 − 1."
-    if keys.contains(&0) {
+    if set.contains_key(&0) {
         return None;
     }
-    Some(Contents {
-        order,
-        keys: keys.into_iter().collect(),
-    })
+    Some(Contents { order, set })
+}
+
+/// The number that these bytes are, the lowest first.
+fn number(bytes: &[u8]) -> u64 {
+    let digits = bytes.iter().rev();
+    digits.fold(0, |number, &byte| 256 * number + u64::from(byte))
 }

@@ -1,6 +1,6 @@
-//! The second program: the index of document 01 with the load and the batch of
-//! document 02, written from these documents alone. Slow and literal; it is there to be
-//! compared with.
+//! The second program: the index of document 01 with the load, the batch and the
+//! measures of document 02, written from these documents alone. Slow and literal; it
+//! is there to be compared with.
 //!
 //! The priority is a parameter of every definition, so that the document's
 //! examples, which write their own priorities, can be computed too.
@@ -12,17 +12,48 @@ pub mod fast;
 pub mod image;
 pub mod listing;
 pub mod load;
+pub mod measure;
 pub mod priority;
 pub mod random;
 pub mod shape;
 pub mod table;
 pub mod treap;
 
-/// An order and a set of keys, the keys rising.
+use measure::Measure;
+use std::collections::BTreeMap;
+
+/// "A set, the book's too, is now one of keys with their measures."
+pub type Set = BTreeMap<u64, Measure>;
+
+/// An order and a set.
 #[derive(Clone, Debug, PartialEq, Eq)]
 pub struct Contents {
     pub order: u64,
-    pub keys: Vec<u64>,
+    pub set: Set,
+}
+
+impl Contents {
+    /// An order and keys of which none is measured.
+    pub fn unmeasured(order: u64, keys: &[u64]) -> Contents {
+        let set = keys.iter().map(|&key| (key, Measure::NONE)).collect();
+        Contents { order, set }
+    }
+
+    /// The keys, rising.
+    pub fn keys(&self) -> Vec<u64> {
+        self.set.keys().copied().collect()
+    }
+
+    /// Their lengths.
+    pub fn lengths(&self) -> Vec<u64> {
+        self.set.values().map(|measure| measure.length).collect()
+    }
+
+    /// Their corrections.
+    pub fn corrections(&self) -> Vec<i32> {
+        let measures = self.set.values();
+        measures.map(|measure| measure.correction).collect()
+    }
 }
 
 /// "The order α is 3 to 255."

@@ -9,17 +9,18 @@ use crate::Contents;
 /// "The listing program reads an image on standard input, into 1,000 slots."
 pub const LISTING_SLOTS: usize = 1000;
 
-/// "More than 44,015 bytes prints `too long`"
-pub const LONGEST_INPUT: usize = 44_015;
+/// "More than 44,015 bytes prints `too long`"; "its byte limit becomes 50,015".
+pub const LONGEST_INPUT: usize = 50_015;
 
 /// "There is one line for the header, each block and each key, in image order;
 /// a block line shows the block's leader key, level and keys in it. Every line
 /// the program prints ends in a line feed. Keys are 16 hexadecimal digits,
-/// letters capital; other numbers are base ten without leading zeros."
+/// letters capital; other numbers are base ten without leading zeros." "The listing's
+/// lines show no measures".
 pub fn listing(priority: Priority, contents: &Contents) -> String {
     let shape = shape_of(priority, contents);
     let blocks = blocks(&shape);
-    let (n, b) = (contents.keys.len() as u64, blocks.len() as u64);
+    let (n, b) = (contents.set.len() as u64, blocks.len() as u64);
     let mut text = format!(
         "order {} keys {} blocks {} fill {} root {:016X}\n",
         contents.order,

@@ -1,22 +1,23 @@
-//! Document 01, section "The table's words".
+//! Document 01, section "The table's words", with the measures of document 02.
 
+use crate::measure::Measure;
 use crate::priority::{entries, Entry, Priority};
 use crate::shape::{shape, Shape};
-use crate::{is_order, Contents, MOST_SLOTS};
-use std::collections::BTreeSet;
+use crate::{is_order, Contents, Set, MOST_SLOTS};
 
 /// Words before the first slot: "Words 0 to 2: α, n, root key."
 pub const HEADER_WORDS: usize = 3;
 
-/// Words of a slot: "key, left, right, leader, rank, count"
-pub const SLOT_WORDS: usize = 6;
+/// Words of a slot: "key, left, right, leader, rank, count"; "Slots gain these two
+/// words after count".
+pub const SLOT_WORDS: usize = 8;
 
-/// The length of a table of M slots: "3 + 6·M"
+/// The length of a table of M slots: "3 + 8·M"
 pub const fn length_of_slots(m: usize) -> usize {
     HEADER_WORDS + SLOT_WORDS * m
 }
 
-/// M, when the length is "3 + 6·M" with "M from 1 to 4,096"; else none.
+/// M, when the length is "3 + 8·M" with "M from 1 to 4,096"; else none.
 pub fn slots_of_length(words: usize) -> Option<usize> {
     (1..=MOST_SLOTS).find(|&m| words == length_of_slots(m))
 }
@@ -53,41 +54,47 @@ fn falling(keys: &[Entry]) -> Vec<Entry> {
 
 /// The shape of an order and a set.
 pub fn shape_of(priority: Priority, contents: &Contents) -> Shape {
-    shape(contents.order, &entries(priority, &contents.keys))
+    shape(contents.order, &entries(priority, &contents.keys()))
 }
 
 /// "Words 0 to 2: α, n, root key. Then each slot: key, left, right, leader,
-/// rank, count. Links are keys. An empty slot is all zeros."
+/// rank, count. Links are keys. An empty slot is all zeros." Length and stored
+/// correction come after count.
 pub fn words(priority: Priority, contents: &Contents, m: usize) -> Vec<u64> {
     let shape = shape_of(priority, contents);
-    let mut words = vec![contents.order, contents.keys.len() as u64, shape.root];
-    for key in slots(&entries(priority, &contents.keys), m) {
+    let mut words = vec![contents.order, contents.set.len() as u64, shape.root];
+    for key in slots(&entries(priority, &contents.keys()), m) {
         words.extend(match shape.node(key) {
             None => [0; SLOT_WORDS],
-            Some(v) => [v.key, v.left, v.right, v.leader, v.rank, v.count],
+            Some(v) => {
+                let [length, stored] = contents.set[&key].words();
+                [
+                    v.key, v.left, v.right, v.leader, v.rank, v.count, length, stored,
+                ]
+            }
         });
     }
     words
 }
 
 /// The only order and set that the words can be those for: word 0, and the
-/// keys in the slots.
-fn candidate(table: &[u64]) -> Contents {
-    let keys: BTreeSet<u64> = table[HEADER_WORDS..]
-        .chunks(SLOT_WORDS)
-        .map(|slot| slot[0])
-        .collect();
-    Contents {
+/// keys in the slots with the measures there. None where a key's measure is
+/// outside the rules.
+fn candidate(table: &[u64]) -> Option<Contents> {
+    let slots = table[HEADER_WORDS..].chunks(SLOT_WORDS);
+    let held = slots.filter(|slot| slot[0] != 0);
+    let measured = held.map(|slot| Some((slot[0], Measure::of_words([slot[6], slot[7]])?)));
+    Some(Contents {
         order: table[0],
-        keys: keys.into_iter().filter(|&key| key != 0).collect(),
-    }
+        set: measured.collect::<Option<Set>>()?,
+    })
 }
 
 /// "A table is sound when its words are exactly those for some order and some
 /// set of at most M keys." Gives these, or none for an unsound table.
 pub fn sound(priority: Priority, table: &[u64]) -> Option<Contents> {
     let m = slots_of_length(table.len())?;
-    let contents = candidate(table);
+    let contents = candidate(table)?;
     let exact = is_order(contents.order) && words(priority, &contents, m) == table;
     exact.then_some(contents)
 }

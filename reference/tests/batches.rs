@@ -33,16 +33,20 @@ fn questions(keys: &[u64]) -> Vec<Question> {
 }
 
 fn table_of(slots: usize, order: u64, keys: &[u64]) -> Vec<u64> {
-    let keys = keys.to_vec();
-    words(&priority, &Contents { order, keys }, slots)
+    words(&priority, &Contents::unmeasured(order, keys), slots)
 }
 
-/// So many slots, an order and keys for them.
+/// The table of an order and a set, whose measures are no matter to a batch.
+fn table_for(slots: usize, contents: &Contents) -> Vec<u64> {
+    words(&priority, contents, slots)
+}
+
+/// So many slots, an order and a set for them.
 fn random_contents(random: &mut Random, most: u64) -> (usize, Contents) {
     let slots = 1 + random.below(most);
     let order = [3, 3, 4, 5, 16, 255][random.below(6) as usize];
     let keys = random.keys(slots);
-    (slots as usize, Contents { order, keys })
+    (slots as usize, random.contents(order, &keys))
 }
 
 /// Some of the held keys, of their neighbours and of any others, rising.
@@ -70,7 +74,7 @@ fn met(falling: &[u64], batch: &[u64]) -> u64 {
     };
     let mut keys = falling.to_vec();
     keys.sort();
-    let table = words(&outranking, &Contents { order: 3, keys }, 9);
+    let table = words(&outranking, &Contents::unmeasured(3, &keys), 9);
     let reply = index.look_up_batch(&table, &mut questions(batch));
     assert_eq!(reply.refusal, 0);
     reply.blocks
@@ -123,8 +127,8 @@ fn each_line_is_a_lookup() {
     let mut lines = [0, 0];
     for _ in 0..300 {
         let (slots, contents) = random_contents(&mut random, 90);
-        let table = table_of(slots, contents.order, &contents.keys);
-        let keys = random_batch(&mut random, &contents.keys);
+        let table = table_for(slots, &contents);
+        let keys = random_batch(&mut random, &contents.keys());
         for batch in FORMS {
             let mut asked = questions(&keys);
             assert_eq!(batch(&table, &mut asked).refusal, 0);
@@ -145,8 +149,8 @@ fn a_batch_of_one_key_meets_what_a_lookup_meets() {
     let mut random = Random(52);
     for _ in 0..60 {
         let (slots, contents) = random_contents(&mut random, 90);
-        let table = table_of(slots, contents.order, &contents.keys);
-        for key in random_batch(&mut random, &contents.keys) {
+        let table = table_for(slots, &contents);
+        for key in random_batch(&mut random, &contents.keys()) {
             let blocks = REAL.look_up(&table, key).blocks;
             for batch in FORMS {
                 let reply = batch(&table, &mut questions(&[key]));
@@ -173,8 +177,8 @@ fn each_block_is_counted_once() {
     let mut shared = 0;
     for _ in 0..150 {
         let (slots, contents) = random_contents(&mut random, 80);
-        let table = table_of(slots, contents.order, &contents.keys);
-        let keys = random_batch(&mut random, &contents.keys);
+        let table = table_for(slots, &contents);
+        let keys = random_batch(&mut random, &contents.keys());
         let each: Vec<_> = keys.iter().map(|&key| names_met(&contents, key)).collect();
         let together: BTreeSet<_> = each.iter().flatten().collect();
         let blocks = together.len() as u64;
@@ -195,9 +199,9 @@ fn all_keys_meet_all_blocks() {
         for _ in 0..20 {
             let (slots, contents) = random_contents(&mut random, most);
             let all = blocks(&shape_of(&priority, &contents)).len() as u64;
-            let table = table_of(slots, contents.order, &contents.keys);
+            let table = table_for(slots, &contents);
             for batch in FORMS {
-                let reply = batch(&table, &mut questions(&contents.keys));
+                let reply = batch(&table, &mut questions(&contents.keys()));
                 assert_eq!(reply.blocks, all);
             }
         }
@@ -263,7 +267,7 @@ fn refusals_of_a_batch() {
     let sound = table_of(2, 3, &[4, 9]);
     let mut unsound = sound.clone();
     unsound[1] += 1;
-    let short = sound[..14].to_vec();
+    let short = sound[..18].to_vec();
     let bad: [&[u64]; 8] = [
         &[0],
         &[0, 1],

@@ -49,10 +49,7 @@ fn block(leader: u64, level: u64, keys: &[u64]) -> Block {
 }
 
 fn contents(keys: &[u64]) -> Contents {
-    Contents {
-        order: 3,
-        keys: keys.to_vec(),
-    }
+    Contents::unmeasured(3, keys)
 }
 
 /// B's image, as document 01 writes it.
@@ -186,19 +183,15 @@ fn example_h() {
         let mut table = vec![99; length_of_slots(3)];
         assert_eq!(index.set_up(&mut table, 3).refusal, 0);
         for key in insertions {
-            assert_eq!(index.insert(&mut table, key).refusal, 0);
+            assert_eq!(index.insert_unmeasured(&mut table, key).refusal, 0);
         }
-        let both = [
-            3, 2, 8, /**/ 6, 0, 0, 8, 0, 1, /**/ 0, 0, 0, 0, 0, 0, /**/ 8, 6, 0, 0,
-            1, 1,
-        ];
+        let both = [[6, 0, 0, 8, 0, 1, 0, 0], [0; 8], [8, 6, 0, 0, 1, 1, 0, 0]];
+        let both = [vec![3, 2, 8], both.concat()].concat();
         assert_eq!(table, both);
         let deleted = index.delete(&mut table, 8);
         assert_eq!((deleted.refusal, deleted.rank), (0, 1));
-        let one = [
-            3, 1, 6, /**/ 0, 0, 0, 0, 0, 0, /**/ 0, 0, 0, 0, 0, 0, /**/ 6, 0, 0, 0,
-            0, 1,
-        ];
+        let one = [[0; 8], [0; 8], [6, 0, 0, 0, 0, 1, 0, 0]];
+        let one = [vec![3, 1, 6], one.concat()].concat();
         assert_eq!(table, one);
     }
 }
@@ -227,17 +220,18 @@ fn the_lesser_of_a_real_tie_outranks() {
 #[test]
 fn lengths_and_orders() {
     let set_up = |length, order| REAL.set_up(&mut vec![1; length], order).refusal;
-    for length in [9, 24_579] {
+    for length in [11, 32_771] {
         assert_eq!(set_up(length, 3), 0);
     }
-    for length in [0, 3, 8, 10, 24_585] {
+    for length in [0, 3, 10, 12, 32_779] {
         assert_eq!(set_up(length, 3), 1);
     }
-    assert_eq!([3, 255, 2, 256].map(|order| set_up(9, order)), [0, 0, 2, 2]);
-    assert_eq!(set_up(8, 2), 1);
-    let mut table = vec![7; 15];
+    let by_order = [3, 255, 2, 256].map(|order| set_up(11, order));
+    assert_eq!(by_order, [0, 0, 2, 2]);
+    assert_eq!(set_up(10, 2), 1);
+    let mut table = vec![7; 19];
     REAL.set_up(&mut table, 255);
-    assert_eq!(table, [vec![255], vec![0; 14]].concat());
+    assert_eq!(table, [vec![255], vec![0; 18]].concat());
 }
 
 const LISTING_OF_B: &str = "\
@@ -261,8 +255,8 @@ fn listing_of_b() {
 
 #[test]
 fn listing_refuses() {
-    assert_eq!(program(&REAL, &[0; 44_016]), "too long\n");
-    assert_eq!(program(&REAL, &[0; 44_015]), "refused 6\n");
+    assert_eq!(program(&REAL, &[0; 50_016]), "too long\n");
+    assert_eq!(program(&REAL, &[0; 50_015]), "refused 6\n");
     assert_eq!(program(&REAL, &[]), "refused 6\n");
     let mut output = vec![b'~'; LISTING_OF_B.len() - 1];
     let reply = REAL.list(&image_of_b(), &mut output);
@@ -276,17 +270,14 @@ fn listing_of_nothing_and_of_too_many_keys() {
     let empty = image(&priority, &contents(&[]));
     let line = "order 3 keys 0 blocks 0 fill 0 root 0000000000000000\n";
     assert_eq!(program(&REAL, &empty), line);
-    let many = |number| Contents {
-        order: 255,
-        keys: (1..=number).collect(),
-    };
+    let many = |number| Contents::unmeasured(255, &(1..=number).collect::<Vec<_>>());
     let listed = image(&priority, &many(1000));
     assert_eq!(
         program(&REAL, &listed).lines().next().unwrap()[..20],
         *"order 255 keys 1000 "
     );
     let unlisted = image(&priority, &many(1001));
-    assert!(unlisted.len() <= 44_015);
+    assert!(unlisted.len() <= 50_015);
     assert_eq!(program(&REAL, &unlisted), "refused 10\n");
 }
 
@@ -299,7 +290,8 @@ fn listed_keys_have_capital_letters() {
 #[test]
 fn steps() {
     let mut table = vec![0; length_of_slots(4)];
-    assert_eq!(REAL.build(&mut table, 3, &[5, 9, u64::MAX]).refusal, 0);
+    let built = REAL.build_unmeasured(&mut table, 3, &[5, 9, u64::MAX]);
+    assert_eq!(built.refusal, 0);
     let mut place = Place::WHOLE;
     let mut seen = vec![];
     for _ in 0..5 {

@@ -4,14 +4,15 @@
 
 mod common;
 
-use common::Random;
+use common::{measure_bytes, Random, WRONG};
 use reference::batch::Question;
 use reference::calls::{Place, REAL};
 use reference::fast;
 use reference::image::image;
+use reference::measure::Measure;
 use reference::priority::{entries, priority, TIES};
 use reference::shape::shape;
-use reference::table::{length_of_slots, slots};
+use reference::table::{length_of_slots, slots, slots_of_length, SLOT_WORDS};
 use reference::Contents;
 
 /// What a call leaves behind: its reply, and the memory that it was lent.
@@ -37,14 +38,38 @@ fn set_up(table: &mut Vec<u64>, order: u64) -> u64 {
     reply.refusal
 }
 
-fn build(table: &mut Vec<u64>, order: u64, list: &[u64]) -> u64 {
-    let (reply, words) = after(table, |t| REAL.build(t, order, list));
+fn build_lists(
+    table: &mut Vec<u64>,
+    order: u64,
+    keys: &[u64],
+    lengths: &[u64],
+    corrections: &[i32],
+) -> u64 {
+    let (reply, words) = after(table, |t| REAL.build(t, order, keys, lengths, corrections));
     assert_eq!(
-        after(table, |t| fast::build(t, order, list)),
+        after(table, |t| fast::build(t, order, keys, lengths, corrections)),
         (reply, words.clone())
     );
     *table = words;
     reply.refusal
+}
+
+/// The build of an order and a set.
+fn build_set(table: &mut Vec<u64>, contents: &Contents) -> u64 {
+    let (lengths, corrections) = (contents.lengths(), contents.corrections());
+    build_lists(
+        table,
+        contents.order,
+        &contents.keys(),
+        &lengths,
+        &corrections,
+    )
+}
+
+/// The build of keys, rising or not, of which none is measured.
+fn build(table: &mut Vec<u64>, order: u64, keys: &[u64]) -> u64 {
+    let (lengths, corrections) = (vec![0; keys.len()], vec![0; keys.len()]);
+    build_lists(table, order, keys, &lengths, &corrections)
 }
 
 fn load(table: &mut Vec<u64>, order: u64, seed: u64, count: u16) -> u64 {
@@ -58,15 +83,19 @@ fn load(table: &mut Vec<u64>, order: u64, seed: u64, count: u16) -> u64 {
     reply.refusal
 }
 
-fn insert(table: &mut Vec<u64>, key: u64) -> u64 {
-    let (reply, words) = after(table, |t| REAL.insert(t, key));
+fn insert_measured(table: &mut Vec<u64>, key: u64, measure: Measure) -> u64 {
+    let (reply, words) = after(table, |t| REAL.insert(t, key, measure));
     assert_eq!(
-        after(table, |t| fast::insert(t, key)),
+        after(table, |t| fast::insert(t, key, measure)),
         (reply, words.clone()),
-        "insert {key}"
+        "insert {key}, {measure:?}"
     );
     *table = words;
     reply.refusal
+}
+
+fn insert(table: &mut Vec<u64>, key: u64) -> u64 {
+    insert_measured(table, key, Measure::NONE)
 }
 
 fn delete(table: &mut Vec<u64>, key: u64) -> u64 {
@@ -165,30 +194,25 @@ fn play(random: &mut Random, table: &mut Vec<u64>, slots: u64) {
     let key = [0, random.key(2 * slots + 2), random.key(2 * slots + 2)][random.below(3) as usize];
     let other = random.key(2 * slots + 2);
     match random.below(23) {
-        0..=5 => drop(insert(table, key)),
+        0..=5 => {
+            let measure = random.any_measure();
+            insert_measured(table, key, measure);
+        }
         6..=9 => drop(delete(table, key)),
         10 | 11 => drop(look_up(table, key)),
         12 => drop(range(table, key, other, random.below(slots + 2) as usize)),
         13 => steps(table, Place::new(key, other)),
         14 => {
-            let (_, bytes) = write(table, 15 + 44 * slots as usize);
+            let (_, bytes) = write(table, 15 + 50 * slots as usize);
             list(&bytes, 100 + 80 * bytes.len());
             read(table, &bytes);
         }
         15 => drop(write(table, random.below(60 * slots) as usize)),
-        16 => {
-            let keys = random.keys(slots + 1);
-            build(table, 2 + random.below(5), &keys);
-        }
-        17 => {
-            let mut keys = random.keys(slots);
-            random.shuffle(&mut keys);
-            build(table, 255 + random.below(2), &keys);
-        }
+        16 | 17 => play_build(random, table, slots),
         18 => {
             let keys = random.keys(slots + 1);
             let order = 3 + random.below(253);
-            let bytes = image(&priority, &Contents { order, keys });
+            let bytes = image(&priority, &random.contents(order, &keys));
             read(table, &bytes);
             list(&bytes, random.below(3_000) as usize);
         }
@@ -204,6 +228,34 @@ fn play(random: &mut Random, table: &mut Vec<u64>, slots: u64) {
             load(table, order, random.next(), count as u16);
         }
     }
+}
+
+/// A build of a set, perhaps with a measure outside the rules; of keys that do not
+/// rise; or with lists of measures of any length.
+fn play_build(random: &mut Random, table: &mut Vec<u64>, slots: u64) {
+    let mut keys = random.keys(slots + 1);
+    let order = 2 + random.below(5);
+    let mut contents = random.contents(order, &keys);
+    match random.below(4) {
+        0 => {
+            random.shuffle(&mut keys);
+            build(table, 255 + random.below(2), &keys);
+            return;
+        }
+        1 => {
+            let (mut lengths, mut corrections) = (contents.lengths(), contents.corrections());
+            lengths.resize(random.below(slots + 2) as usize, 0);
+            corrections.resize(random.below(slots + 2) as usize, 0);
+            build_lists(table, contents.order, &keys, &lengths, &corrections);
+            return;
+        }
+        2 if !keys.is_empty() => {
+            let key = keys[random.below(keys.len() as u64) as usize];
+            contents.set.insert(key, random.wrong_measure());
+        }
+        _ => (),
+    }
+    build_set(table, &contents);
 }
 
 fn histories(seed: u64, slots: u64, number: u64, calls: u64) {
@@ -298,6 +350,30 @@ fn great_tables() {
     }
 }
 
+/// Every key of the greatest table measured: the longest images.
+#[test]
+fn great_tables_of_measured_keys() {
+    let mut random = Random(401);
+    for order in [3, 255] {
+        let keys = distinct(4096, || random.next().max(1));
+        let mut contents = Contents::unmeasured(order, &keys);
+        let measures = contents.set.values_mut();
+        measures.for_each(|measure| *measure = random.measured());
+        let mut table = vec![7; length_of_slots(4096)];
+        assert_eq!(build_set(&mut table, &contents), 0);
+        look_up(&table, keys[7]);
+        delete(&mut table, keys[7]);
+        insert_measured(&mut table, keys[7], contents.set[&keys[7]]);
+        let (refusal, bytes) = write(&table, 15 + 50 * 4096);
+        assert_eq!((refusal, bytes == image(&priority, &contents)), (0, true));
+        assert_eq!(list(&bytes, 1 << 20), 0);
+        let before = table.clone();
+        table.fill(1);
+        assert_eq!(read(&mut table, &bytes), 0);
+        assert_eq!(table, before);
+    }
+}
+
 /// Keys whose homes are the same, so that they stand in one cluster.
 #[test]
 fn one_home() {
@@ -355,7 +431,7 @@ fn great_table(slots: usize, order: u64, keys: &[u64]) {
     assert_eq!(range(&table, 0, u64::MAX, keys.len()), 0);
     assert_eq!(range(&table, keys[3], keys[9], 7), 0);
     step(&table, Place::new(keys[5] + 1, u64::MAX));
-    let (refusal, bytes) = write(&table, 15 + 44 * slots);
+    let (refusal, bytes) = write(&table, 15 + 50 * slots);
     assert_eq!(refusal, 0);
     assert_eq!(list(&bytes, 100 * keys.len() + 100), 0);
     table.fill(1);
@@ -374,6 +450,7 @@ fn judged(table: &[u64]) -> u64 {
     step(table, Place::SPENT);
     write(table, 60 * table.len());
     insert(&mut table.to_vec(), 6);
+    insert_measured(&mut table.to_vec(), 6, Measure::new(26_500, -17));
     delete(&mut table.to_vec(), 6);
     refusal
 }
@@ -381,8 +458,8 @@ fn judged(table: &[u64]) -> u64 {
 fn random_table(random: &mut Random, most: u64) -> Vec<u64> {
     let slots = 1 + random.below(most);
     let mut table = vec![0; length_of_slots(slots as usize)];
-    let keys = random.keys(slots);
-    assert_eq!(build(&mut table, 3 + random.below(2), &keys), 0);
+    let (order, keys) = (3 + random.below(2), random.keys(slots));
+    assert_eq!(build_set(&mut table, &random.contents(order, &keys)), 0);
     table
 }
 
@@ -409,6 +486,27 @@ fn each_word_changed() {
     }
 }
 
+/// The words of measures at every end of the rules, in held slots and in empty ones.
+#[test]
+fn each_measure_changed() {
+    let mut random = Random(507);
+    let mut refusals = [0, 0];
+    for _ in 0..40 {
+        let table = random_table(&mut random, 6);
+        for slot in 0..slots_of_length(table.len()).unwrap() {
+            for length in [0, 1, 9_999, 10_000, 40_000, 40_001, u64::MAX] {
+                for correction in [0, 1, 5_000, 10_000, 10_001, u64::MAX] {
+                    let mut damaged = table.clone();
+                    damaged[3 + 8 * slot + 6] = length;
+                    damaged[3 + 8 * slot + 7] = correction;
+                    refusals[(judged(&damaged) == 7) as usize] += 1;
+                }
+            }
+        }
+    }
+    assert!(refusals.iter().all(|&number| number > 500), "{refusals:?}");
+}
+
 /// Exchanged words make links that cross, keys in each other's slots, and cycles.
 #[test]
 fn each_two_words_exchanged() {
@@ -433,14 +531,14 @@ fn each_two_slots_exchanged_or_doubled() {
     let mut random = Random(502);
     for _ in 0..40 {
         let table = random_table(&mut random, 14);
-        let slots = (table.len() - 3) / 6;
+        let slots = slots_of_length(table.len()).unwrap();
         for a in 0..slots {
             for b in 0..slots {
                 let mut damaged = table.clone();
-                (0..6).for_each(|word| damaged.swap(3 + 6 * a + word, 3 + 6 * b + word));
+                (0..SLOT_WORDS).for_each(|word| damaged.swap(3 + 8 * a + word, 3 + 8 * b + word));
                 judged(&damaged);
                 damaged = table.clone();
-                damaged.copy_within(3 + 6 * a..9 + 6 * a, 3 + 6 * b);
+                damaged.copy_within(3 + 8 * a..11 + 8 * a, 3 + 8 * b);
                 judged(&damaged);
                 damaged[1] += 1;
                 judged(&damaged);
@@ -456,7 +554,7 @@ fn subtrees_exchanged_between_parents() {
     for _ in 0..30 {
         let table = random_table(&mut random, 40);
         let links: Vec<usize> = (3..table.len())
-            .filter(|i| matches!((i - 3) % 6, 1 | 2))
+            .filter(|i| matches!((i - 3) % SLOT_WORDS, 1 | 2))
             .collect();
         for _ in 0..200 {
             let mut damaged = table.clone();
@@ -484,8 +582,8 @@ fn trees_of_other_priorities() {
         let mut table = vec![3, keys.len() as u64, tree.root];
         for key in slots(&entries(&priority, &keys), 10) {
             table.extend(match tree.node(key) {
-                None => [0; 6],
-                Some(v) => [v.key, v.left, v.right, v.leader, v.rank, v.count],
+                None => [0; 8],
+                Some(v) => [v.key, v.left, v.right, v.leader, v.rank, v.count, 0, 0],
             });
         }
         unsound += (judged(&table) == 7) as u64;
@@ -522,10 +620,48 @@ fn damaged_images() {
             read(&mut table, &bytes[..i]);
             list(&bytes[..i], 2_000);
         }
-        for more in [&[0][..], b"LB", b"LN", &bytes, &[0; 14]] {
+        for more in [&[0][..], b"LB", b"LN", b"LM", &bytes, &[0; 14], &[0; 6]] {
             let longer = [&bytes, more].concat();
             assert_eq!(read(&mut table, &longer), 6);
             assert_eq!(list(&longer, 2_000), 6);
+        }
+    }
+}
+
+/// The bytes of measures at every end of the rules, and each mark for the other.
+#[test]
+fn damaged_measures_of_images() {
+    let mut random = Random(508);
+    for _ in 0..25 {
+        let mut table = random_table(&mut random, 8);
+        let (_, bytes) = write(&table, 1_000);
+        for place in measure_bytes(&bytes).into_iter().step_by(6) {
+            for length in [
+                0u32,
+                1,
+                9_999,
+                10_000,
+                40_000,
+                40_001,
+                65_536 + 20_000,
+                u32::MAX,
+            ] {
+                for correction in [0u16, 1, 5_000, 10_000, 10_001, u16::MAX] {
+                    let mut damaged = bytes.clone();
+                    damaged[place..place + 4].copy_from_slice(&length.to_le_bytes());
+                    damaged[place + 4..place + 6].copy_from_slice(&correction.to_le_bytes());
+                    read(&mut table, &damaged);
+                    list(&damaged, 2_000);
+                }
+            }
+            let mut damaged = bytes.clone();
+            damaged[place - 29] = b'N';
+            assert_eq!(read(&mut table, &damaged), 6);
+            damaged.drain(place..place + 6);
+            // Without its measure the key is an unmeasured one.
+            assert_eq!(read(&mut table, &damaged), 0);
+            damaged[place - 29] = b'M';
+            assert_eq!(read(&mut table, &damaged), 6);
         }
     }
 }
@@ -534,12 +670,13 @@ fn damaged_images() {
 // Refusals
 
 #[test]
-fn every_refusal() {
-    let mut table = vec![9; length_of_slots(2)];
-    for length in [0, 1, 2, 3, 8, 10, 14, 24_578, 24_580, 24_585] {
+fn wrong_lengths() {
+    for length in [0, 1, 2, 3, 10, 12, 18, 32_770, 32_772, 32_779] {
         let mut wrong = vec![0; length];
         assert_eq!(set_up(&mut wrong, 2), 1);
         assert_eq!(build(&mut wrong, 2, &[0]), 1);
+        assert_eq!(build_lists(&mut wrong, 2, &[0], &[], &[]), 1);
+        assert_eq!(insert_measured(&mut wrong, 0, WRONG[0]), 1);
         assert_eq!(load(&mut wrong, 2, 7, 3), 1);
         assert_eq!(insert(&mut wrong, 0), 1);
         assert_eq!(delete(&mut wrong, 0), 1);
@@ -550,12 +687,22 @@ fn every_refusal() {
         assert_eq!(write(&wrong, 0).0, 1);
         assert_eq!(read(&mut wrong, &[]), 1);
     }
+}
+
+#[test]
+fn every_other_refusal_by_the_input() {
+    let mut table = vec![9; length_of_slots(2)];
     for order in [0, 1, 2, 256, u64::MAX] {
         assert_eq!(set_up(&mut table, order), 2);
         assert_eq!(build(&mut table, order, &[0, 0]), 2);
+        assert_eq!(build_lists(&mut table, order, &[0], &[], &[]), 2);
         assert_eq!(load(&mut table, order, 7, 3), 2);
     }
     assert_eq!(insert(&mut table, 0), 3);
+    for measure in WRONG {
+        assert_eq!(insert_measured(&mut table, 0, measure), 3);
+        assert_eq!(insert_measured(&mut table, 5, measure), 12);
+    }
     assert_eq!(delete(&mut table, 0), 3);
     assert_eq!(look_up(&table, 0), 3);
     assert_eq!(range(&table, 2, 1, 0), 4);
@@ -568,12 +715,41 @@ fn every_refusal() {
         &[1, 2, 3, 3],
     ] {
         assert_eq!(build(&mut table, 3, list), 5);
+        assert_eq!(build_lists(&mut table, 3, list, &[1], &[]), 5);
         assert_eq!(look_up_batch(&table, list), 5);
     }
     assert_eq!(build(&mut table, 3, &[1, 2, 3]), 10);
+    refused_lists(&mut table);
     assert_eq!(read(&mut table, &[]), 6);
     assert_eq!(judged(&table), 7);
     assert_eq!(look_up_batch(&table, &[]), 7);
+}
+
+/// Lists of measures that are too short, too long or have a measure outside the
+/// rules: 12 comes before 10.
+fn refused_lists(table: &mut Vec<u64>) {
+    let keys = [1, 2, 3, 4];
+    for number in 0..=4 {
+        let keys = &keys[..number];
+        for (lengths, corrections) in [(number + 1, number), (number, number + 1), (9, 9)] {
+            let (lengths, corrections) = (vec![0; lengths], vec![0; corrections]);
+            assert_eq!(build_lists(table, 3, keys, &lengths, &corrections), 12);
+        }
+    }
+    for number in 1..=4 {
+        let keys = &keys[..number];
+        for (lengths, corrections) in [(number - 1, number), (number, number - 1), (0, 0)] {
+            let (lengths, corrections) = (vec![0; lengths], vec![0; corrections]);
+            assert_eq!(build_lists(table, 3, keys, &lengths, &corrections), 12);
+        }
+        for measure in WRONG {
+            for place in 0..number {
+                let (mut lengths, mut corrections) = (vec![0; number], vec![0; number]);
+                (lengths[place], corrections[place]) = (measure.length, measure.correction);
+                assert_eq!(build_lists(table, 3, keys, &lengths, &corrections), 12);
+            }
+        }
+    }
 }
 
 #[test]
@@ -581,14 +757,16 @@ fn refusals_by_the_state() {
     let mut table = vec![9; length_of_slots(2)];
     assert_eq!(build(&mut table, 3, &[4, u64::MAX]), 0);
     assert_eq!(insert(&mut table, 4), 8);
+    let measured = Measure::new(10_000, 1);
+    assert_eq!(insert_measured(&mut table, 4, measured), 8);
+    assert_eq!(insert_measured(&mut table, 5, measured), 10);
+    assert_eq!(insert_measured(&mut table, 4, WRONG[0]), 12);
+    assert_eq!(insert_measured(&mut table, 5, WRONG[0]), 12);
     assert_eq!(insert(&mut table, 5), 10);
     assert_eq!(delete(&mut table, 5), 9);
     assert_eq!(range(&table, 0, u64::MAX, 1), 11);
     steps(&table, Place::WHOLE);
-    let three = Contents {
-        order: 3,
-        keys: vec![1, 2, 3],
-    };
+    let three = Contents::unmeasured(3, &[1, 2, 3]);
     let bytes = image(&priority, &three);
     assert_eq!(read(&mut table, &bytes), 10);
     let (_, bytes) = write(&table, 1_000);

@@ -1,7 +1,8 @@
 #!/usr/bin/env python3
 """Makes the cases of the listing program: for each NAME an input NAME.image and what must be printed, NAME.txt.
 
-Written from document 01 alone, by definition: leaders by really making the treap of each level. It shares nothing with the library.
+Written from documents 01 and 02 alone, by definition: leaders by really making the treap of each level. It shares nothing with the
+library.
 """
 import itertools
 import os
@@ -19,6 +20,10 @@ def priority(key):
     for j in range(8):
         value ^= E[256 * j + (key >> (8 * j)) % 256]
     return value
+
+
+def number(value, width):
+    return value.to_bytes(width, "little")
 
 
 def before(key):
@@ -53,8 +58,10 @@ def keys_of(node):
 
 
 class Shape:
-    def __init__(self, order, keys):
-        self.order, self.keys = order, sorted(keys)
+    """An order and a set of keys; `measures` has a length and a correction for each key that is measured."""
+
+    def __init__(self, order, keys, measures=None):
+        self.order, self.keys, self.measures = order, sorted(keys), measures or {}
         levels = [self.keys]
         while len(levels[-1]) > 1:
             top = treap(levels[-1])
@@ -89,17 +96,21 @@ class Shape:
     def link(self, node):
         return node.key if node else 0
 
-    def image(self):
-        def number(value, width):
-            return value.to_bytes(width, "little")
+    def record(self, key):
+        node = self.nodes[key][0]
+        fields = number(key, 8) + number(self.link(node.left), 8) + number(self.link(node.right), 8)
+        fields += number(self.rank[key], 2) + number(self.count[key], 2)
+        if key not in self.measures:
+            return b"LN" + fields
+        length, correction = self.measures[key]
+        return b"LM" + fields + number(length, 4) + number(correction + 5000, 2)
 
+    def image(self):
         out = b"LH" + number(self.order, 1) + number(len(self.keys), 2) + number(len(self.blocks), 2) + number(self.root, 8)
         for leader, level, held in self.blocks:
             out += b"LB" + number(leader, 8) + number(level, 2) + number(len(held), 2)
             for key in held:
-                node = self.nodes[key][0]
-                out += b"LN" + number(key, 8) + number(self.link(node.left), 8) + number(self.link(node.right), 8)
-                out += number(self.rank[key], 2) + number(self.count[key], 2)
+                out += self.record(key)
         return out
 
     def listing(self):
@@ -130,10 +141,37 @@ def case(name, image, text):
         out.write(text)
 
 
-def listed(name, order, keys):
-    shape = Shape(order, keys)
+def listed(name, order, keys, measures=None):
+    shape = Shape(order, keys, measures)
     case(name, shape.image(), shape.listing())
     return shape
+
+
+def refused(name, image):
+    case(name, image, "refused 6\n")
+
+
+def many(number):
+    """So many keys, and a measure for each, the ends of the rules among them."""
+    keys = [(k * 11400714819323198485) % WORD for k in range(1, number + 1)]
+    ends = {keys[0]: (10000, -5000), keys[1]: (40000, 5000)}
+    measures = {key: (10000 + 29 * i % 30001, 7 * i % 10001 - 5000) for i, key in enumerate(keys)}
+    return keys, {**measures, **ends}
+
+
+def measured_cases():
+    """Images with records under `LM`. A lone key's measure is the last six bytes of its image."""
+    listed("measured_keys", 3, [3, 5, 9, 12], {5: (10000, -5000), 9: (26500, 0), 12: (40000, 5000)})
+    lone = listed("measured_key", 3, [5], {5: (26500, -120)}).image()
+    fields, measure = lone[:-6], lone[-6:]
+    assert fields[29:31] == b"LM" and measure == number(26500, 4) + number(4880, 2)
+    refused("measure_of_zero", fields + number(0, 4) + number(0, 2))
+    refused("measure_too_short", fields + number(9999, 4) + number(5000, 2))
+    refused("measure_too_long", fields + number(40001, 4) + number(5000, 2))
+    refused("correction_too_great", fields + number(26500, 4) + number(10001, 2))
+    refused("correction_of_no_measure", fields + number(0, 4) + number(5000, 2))
+    refused("measure_left_out", fields)
+    refused("measure_left_over", lone[:29] + b"LN" + lone[31:])
 
 
 def main():
@@ -143,26 +181,26 @@ def main():
     listed("example_e", 3, keys_ranked((2, 3, 4, 5, 6, 7, 1), range(1, 40)))
     six = listed("example_g", 3, keys_ranked((3, 2, 4, 1, 5, 6), range(1, 40)))
     listed("greatest_key", 255, [1, WORD - 1])
-    listed("thousand_keys", 7, [(k * 11400714819323198485) % WORD for k in range(1, 1001)])
-    more = Shape(7, [(k * 11400714819323198485) % WORD for k in range(1, 1002)])
-    case("thousand_and_one_keys", more.image(), "refused 10\n")
+    listed("thousand_keys", 7, *many(1000))
+    case("thousand_and_one_keys", Shape(7, *many(1001)).image(), "refused 10\n")
+    measured_cases()
     image = six.image()
-    case("no_bytes", b"", "refused 6\n")
-    case("cut_short", image[:-1], "refused 6\n")
-    case("trailing_byte", image + b"\0", "refused 6\n")
-    case("count_changed", image[:3] + bytes([image[3] + 1]) + image[4:], "refused 6\n")
-    case("bit_flipped", image[:40] + bytes([image[40] ^ 1]) + image[41:], "refused 6\n")
+    refused("no_bytes", b"")
+    refused("cut_short", image[:-1])
+    refused("trailing_byte", image + b"\0")
+    refused("count_changed", image[:3] + bytes([image[3] + 1]) + image[4:])
+    refused("bit_flipped", image[:40] + bytes([image[40] ^ 1]) + image[41:])
     first, second = six.blocks[1], six.blocks[2]
     parts = [15]
     for block in six.blocks:
         parts.append(parts[-1] + 14 + 30 * len(block[2]))
     assert first[1] == second[1]
     exchanged = image[:parts[1]] + image[parts[2]:parts[3]] + image[parts[1]:parts[2]]
-    case("blocks_exchanged", exchanged, "refused 6\n")
-    case("order_two", chain.image()[:2] + b"\2" + chain.image()[3:], "refused 6\n")
-    case("key_of_zero", b"LH\3\1\0\1\0" + bytes(8) + b"LB" + bytes(8) + b"\0\0\1\0LN" + bytes(24) + b"\0\0\1\0", "refused 6\n")
-    case("longest_input", bytes(44015), "refused 6\n")
-    case("too_long", bytes(44016), "too long\n")
+    refused("blocks_exchanged", exchanged)
+    refused("order_two", chain.image()[:2] + b"\2" + chain.image()[3:])
+    refused("key_of_zero", b"LH\3\1\0\1\0" + bytes(8) + b"LB" + bytes(8) + b"\0\0\1\0LN" + bytes(24) + b"\0\0\1\0")
+    refused("longest_input", bytes(50015))
+    case("too_long", bytes(50016), "too long\n")
 
 
 if __name__ == "__main__":

@@ -1,32 +1,39 @@
-//! A safe wrapper of `libbtreap.a`: a set of 64-bit keys kept in words that the caller lends, whose every word depends only on the
-//! order, the number of slots and the set. Each call takes any words and bytes; one that refuses changes none of them.
+//! A safe wrapper of `libbtreap.a`: a set of 64-bit keys, each with its measure, kept in words that the caller lends, whose every word
+//! depends only on the order, the number of slots and the set. Each call takes any words and bytes; one that refuses changes none of them.
 //!
 //! ```
+//! use btreap::Measure;
 //! let mut table = vec![0; btreap::table_words(64)];
 //! btreap::set_up(&mut table, 8)?;
 //! btreap::insert(&mut table, 42)?;
 //! assert!(btreap::look_up(&table, 42)?.is_held());
+//! let measure = Measure::new(26_500, -120);
+//! btreap::insert_measured(&mut table, 43, measure)?;
+//! assert_eq!(btreap::look_up(&table, 43)?.measure(), Some(measure));
 //! # Ok::<(), btreap::Refusal>(())
 //! ```
 
 use std::fmt;
 
+mod measure;
 pub mod sys;
 
+pub use measure::Measure;
 pub use sys::Question;
 
 /// The most slots that a table has.
 pub const MOST_SLOTS: usize = 4096;
 
-/// The bytes of the longest image: 4,096 keys, each in a block of its own.
-pub const LONGEST_IMAGE: usize = 15 + 44 * MOST_SLOTS;
+/// The bytes of the longest image: 4,096 measured keys, each in a block of its own.
+pub const LONGEST_IMAGE: usize = 15 + 50 * MOST_SLOTS;
 
 /// The words of a table of so many slots.
 pub const fn table_words(slots: usize) -> usize {
-    3 + 6 * slots
+    3 + 8 * slots
 }
 
-/// Why a call was turned down. The lowest that applies is given.
+/// Why a call was turned down. Of several refusals the one is given that the call names first; each call names its refusals by rising
+/// number, but 12 before 7 and 10.
 #[derive(Clone, Copy, Debug, PartialEq, Eq)]
 pub enum Refusal {
     WrongLength,
@@ -40,10 +47,11 @@ pub enum Refusal {
     KeyAbsent,
     TooManyKeys,
     OutputTooShort,
+    WrongMeasure,
 }
 
-const REFUSALS: [(Refusal, &str); 11] = [
-    (Refusal::WrongLength, "the number of words is not 3 + 6·M for 1 to 4,096 slots"),
+const REFUSALS: [(Refusal, &str); 12] = [
+    (Refusal::WrongLength, "the number of words is not 3 + 8·M for 1 to 4,096 slots"),
     (Refusal::WrongOrder, "the order is outside 3 to 255"),
     (Refusal::ZeroKey, "the key is zero"),
     (Refusal::LowAboveHigh, "low is above high"),
@@ -54,10 +62,11 @@ const REFUSALS: [(Refusal, &str); 11] = [
     (Refusal::KeyAbsent, "the key is absent"),
     (Refusal::TooManyKeys, "there would be more keys than slots"),
     (Refusal::OutputTooShort, "the output is too short"),
+    (Refusal::WrongMeasure, "a measure is outside the rules, missing or left over"),
 ];
 
 impl Refusal {
-    /// Its number, 1 to 11.
+    /// Its number, 1 to 12.
     pub fn number(self) -> u64 {
         self as u64 + 1
     }
@@ -82,13 +91,21 @@ fn unless_refused<T>(number: u64, result: T) -> Result<T, Refusal> {
 /// What a lookup finds. `blocks` is how many different blocks hold the keys that it compared on its way down.
 #[derive(Clone, Copy, Debug, PartialEq, Eq)]
 pub enum Found {
-    Held { rank: u64, count: u64, leader: u64, blocks: u64 },
+    Held { rank: u64, count: u64, leader: u64, blocks: u64, measure: Measure },
     Absent { blocks: u64 },
 }
 
 impl Found {
     pub fn is_held(self) -> bool {
         matches!(self, Found::Held { .. })
+    }
+
+    /// The measure of a held key that is measured.
+    pub fn measure(self) -> Option<Measure> {
+        match self {
+            Found::Held { measure, .. } if measure.is_measured() => Some(measure),
+            _ => None,
+        }
     }
 }
 
@@ -132,27 +149,63 @@ pub fn set_up(table: &mut [u64], order: u64) -> Result<(), Refusal> {
     unless_refused(refusal, ())
 }
 
-/// Make of any words the table of an order and a strictly rising list of keys. Refusals: 1, 2, 5, 10.
+/// Make of any words the table of an order and a strictly rising list of keys, of which none is measured. It takes memory for as many
+/// zeros twice, which [`build_measured`] is lent. Refusals: 1, 2, 5, 10.
 pub fn build(table: &mut [u64], order: u64, keys: &[u64]) -> Result<(), Refusal> {
+    build_measured(table, order, keys, &vec![0; keys.len()], &vec![0; keys.len()])
+}
+
+/// Make of any words the table of an order and a strictly rising list of keys, each with the length and the correction at its place of the
+/// other two lists; these are as long as the first. Refusals: 1, 2, 5, 12, 10.
+///
+/// ```
+/// use btreap::{Measure, Refusal};
+/// let mut table = vec![0; btreap::table_words(64)];
+/// btreap::build_measured(&mut table, 8, &[7, 42], &[0, 26_500], &[0, -120])?;
+/// assert_eq!(btreap::look_up(&table, 7)?.measure(), None);
+/// assert_eq!(btreap::look_up(&table, 42)?.measure(), Some(Measure::new(26_500, -120)));
+/// assert_eq!(btreap::build_measured(&mut table, 8, &[7, 42], &[26_500], &[0]), Err(Refusal::WrongMeasure));
+/// # Ok::<(), Refusal>(())
+/// ```
+pub fn build_measured(table: &mut [u64], order: u64, keys: &[u64], lengths: &[u64], corrections: &[i32]) -> Result<(), Refusal> {
     // SAFETY: as in `set_up`; a mutable and a shared slice do not overlap.
-    let refusal = unsafe { sys::btreap_build(table.as_mut_ptr(), table.len(), order, keys.as_ptr(), keys.len()) };
+    let refusal = unsafe {
+        sys::btreap_build(
+            table.as_mut_ptr(),
+            table.len(),
+            order,
+            keys.as_ptr(),
+            keys.len(),
+            lengths.as_ptr(),
+            lengths.len(),
+            corrections.as_ptr(),
+            corrections.len(),
+        )
+    };
     unless_refused(refusal, ())
 }
 
 /// Make of any words the blank table of an order, and do on it `count` operations that the seed alone determines: a load that anyone can
 /// run again. Each operation first sets `seed` to 6364136223846793005·seed + 1442695040888963407, modulo 2^64. Its key is then
-/// `(seed >> 32) % 512 + 1`, and `seed >> 62` chooses: 0 or 1 insert, 2 delete, 3 lookup. An operation that is turned down counts as done.
-/// Refusals: 1, 2.
+/// `(seed >> 32) % 512 + 1`, and `seed >> 62` chooses: 0 or 1 insert, 2 delete, 3 lookup. No key is measured. An operation that is turned
+/// down counts as done. Refusals: 1, 2.
 pub fn load(table: &mut [u64], order: u64, seed: u64, count: u16) -> Result<(), Refusal> {
     // SAFETY: as in `set_up`.
     let refusal = unsafe { sys::btreap_load(table.as_mut_ptr(), table.len(), order, seed, count) };
     unless_refused(refusal, ())
 }
 
-/// Insert a key; the rank that it then has. Refusals: 1, 3, 7, 8, 10.
+/// Insert a key that is not measured; the rank that it then has. Refusals: 1, 3, 7, 8, 10.
 pub fn insert(table: &mut [u64], key: u64) -> Result<u64, Refusal> {
+    insert_measured(table, key, Measure::NONE)
+}
+
+/// Insert a key with its measure; the rank that it then has. A held key is refused also with another measure.
+/// Refusals: 1, 3, 12, 7, 8, 10.
+pub fn insert_measured(table: &mut [u64], key: u64, measure: Measure) -> Result<u64, Refusal> {
+    let Measure { length, correction } = measure;
     // SAFETY: as in `set_up`.
-    let reply = unsafe { sys::btreap_insert(table.as_mut_ptr(), table.len(), key) };
+    let reply = unsafe { sys::btreap_insert(table.as_mut_ptr(), table.len(), key, length, correction) };
     unless_refused(reply.refusal, reply.rank)
 }
 
@@ -167,10 +220,11 @@ pub fn delete(table: &mut [u64], key: u64) -> Result<u64, Refusal> {
 pub fn look_up(table: &[u64], key: u64) -> Result<Found, Refusal> {
     // SAFETY: as in `set_up`; the table is only read.
     let reply = unsafe { sys::btreap_lookup(table.as_ptr(), table.len(), key) };
-    let sys::FoundReply { rank, count, leader, blocks, .. } = reply;
+    let sys::FoundReply { rank, count, leader, blocks, length, correction, .. } = reply;
     let found = match reply.held {
         0 => Found::Absent { blocks },
-        _ => Found::Held { rank, count, leader, blocks },
+        // A correction is −5,000 to 5,000.
+        _ => Found::Held { rank, count, leader, blocks, measure: Measure::new(length, correction as i32) },
     };
     unless_refused(reply.refusal, found)
 }

@@ -18,6 +18,8 @@ pub struct FoundReply {
     pub count: u64,
     pub leader: u64,
     pub blocks: u64,
+    pub length: u64,
+    pub correction: i64,
 }
 
 /// The reply of a batch, a range, a writing or a listing.
@@ -53,9 +55,19 @@ pub struct Question {
 
 extern "C" {
     pub fn btreap_set_up(table: *mut u64, words: usize, order: u64) -> u64;
-    pub fn btreap_build(table: *mut u64, words: usize, order: u64, keys: *const u64, n: usize) -> u64;
+    pub fn btreap_build(
+        table: *mut u64,
+        words: usize,
+        order: u64,
+        keys: *const u64,
+        n: usize,
+        lengths: *const u64,
+        lengths_n: usize,
+        corrections: *const i32,
+        corrections_n: usize,
+    ) -> u64;
     pub fn btreap_load(table: *mut u64, words: usize, order: u64, seed: u64, count: u16) -> u64;
-    pub fn btreap_insert(table: *mut u64, words: usize, key: u64) -> RankedReply;
+    pub fn btreap_insert(table: *mut u64, words: usize, key: u64, length: u64, correction: i32) -> RankedReply;
     pub fn btreap_delete(table: *mut u64, words: usize, key: u64) -> RankedReply;
     pub fn btreap_lookup(table: *const u64, words: usize, key: u64) -> FoundReply;
     pub fn btreap_lookup_batch(table: *const u64, words: usize, questions: *mut Question, n: usize) -> SizedReply;

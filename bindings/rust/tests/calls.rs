@@ -2,7 +2,7 @@
 
 mod common;
 
-use btreap::{Found, Place, Refusal};
+use btreap::{Found, Measure, Place, Refusal};
 use common::{table_of, unsound};
 use std::collections::BTreeSet;
 
@@ -24,11 +24,13 @@ fn each_refusal_has_its_number() {
         btreap::delete(&mut table, 6).unwrap_err(),
         btreap::insert(&mut full, 6).unwrap_err(),
         btreap::write(&table, &mut [0; 10]).unwrap_err(),
+        btreap::insert_measured(&mut table, 6, Measure::new(9_999, 0)).unwrap_err(),
     ];
     let numbers: Vec<u64> = refused.iter().map(|refusal| refusal.number()).collect();
-    assert_eq!(numbers, (1..=11).collect::<Vec<u64>>());
+    assert_eq!(numbers, (1..=12).collect::<Vec<u64>>());
     assert_eq!(refused[4], Refusal::NotRising);
     assert_eq!(refused[10].to_string(), "the output is too short");
+    assert_eq!(refused[11], Refusal::WrongMeasure);
     assert_eq!(table, table_of(SLOTS, &[5, 7]));
     assert_eq!(full, table_of(SLOTS, &[5, 7, 9]));
 }
@@ -102,7 +104,8 @@ fn a_refused_load_leaves_the_words() {
 #[test]
 fn a_lookup_tells_held_from_absent() {
     let table = table_of(SLOTS, &[5]);
-    assert_eq!(btreap::look_up(&table, 5), Ok(Found::Held { rank: 0, count: 1, leader: 0, blocks: 1 }));
+    let measure = Measure::NONE;
+    assert_eq!(btreap::look_up(&table, 5), Ok(Found::Held { rank: 0, count: 1, leader: 0, blocks: 1, measure }));
     assert_eq!(btreap::look_up(&table, 6), Ok(Found::Absent { blocks: 1 }));
 }
 

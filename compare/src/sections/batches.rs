@@ -6,8 +6,11 @@ use crate::batches::{neighbours_only, random_batch, some_of, with_neighbours};
 use crate::call::Call;
 use crate::case::{Case, Tally};
 use crate::keys::{keys_outranking, keys_with_home, parts, permutations, Chain};
+use crate::measures::random_set;
 use crate::outcome::Outcome;
-use crate::tables::{blocks_of, make_unsound, path_of, sound_table, table_length};
+use crate::tables::{
+    blocks_of, is_measure_word, make_unsound, measured_table, path_of, sound_table, table_length,
+};
 
 pub const SECTION: Section = Section {
     name: "batches",
@@ -115,7 +118,8 @@ fn each_kind(case: &mut Case, slots: usize, order: u64, keys: &[u64]) {
 fn one_by_one(case: &mut Case, slots: usize) {
     let (order, number) = (case.random.order(), case.random.fill(slots));
     let held = case.random.keys(number);
-    case.lend_sound(slots, order, &held);
+    let set = random_set(&held, &mut case.random);
+    case.lend_measured(slots, order, &set);
     let mut keys = random_batch(&held, &mut case.random);
     keys.truncate(100);
     let look_up = |&key: &u64| case.refused(Call::LookUp { key }, 0).reply.numbers;
@@ -238,7 +242,7 @@ fn turned_down(case: &mut Case, slots: usize) {
     let mut unsound = sound.clone();
     make_unsound(&mut unsound);
     let all = [BAD.to_vec(), GOOD.to_vec()].concat();
-    for length in [0, 3, 8, 10, table_length(slots) - 1, 24_585] {
+    for length in [0, 3, 10, 12, table_length(slots) - 1, 32_779] {
         case.table = sound.clone();
         case.table.resize(length, 1);
         all.iter().for_each(|batch| refused(case, batch, 1));
@@ -255,10 +259,13 @@ fn turned_down(case: &mut Case, slots: usize) {
 fn damaged(case: &mut Case, slots: usize) {
     let number = case.random.fill(slots);
     let (order, keys) = (case.random.order(), case.random.keys(number));
-    let table = sound_table(slots, order, &keys);
+    let set = random_set(&keys, &mut case.random);
+    let table = measured_table(slots, order, &set);
+    // With another order a table of few keys may be sound as well; so may it with
+    // another measure.
+    let words: Vec<usize> = (1..table.len()).filter(|&i| !is_measure_word(i)).collect();
     for _ in 0..10 {
-        // With another order a table of few keys may be sound as well.
-        let word = 1 + case.random.below(table.len() - 1);
+        let word = case.random.pick(&words);
         let batch = random_batch(&keys, &mut case.random);
         case.table.clone_from(&table);
         case.table[word] ^= 1 << case.random.below(64);

@@ -4,7 +4,8 @@ use super::{exercise, Section};
 use crate::call::{Call, Place};
 use crate::case::{Case, Tally};
 use crate::keys::Chain;
-use crate::tables::image_of;
+use crate::measures::random_set;
+use crate::tables::measured_image;
 
 pub const SECTION: Section = Section {
     name: "chains",
@@ -45,11 +46,11 @@ fn long_chain(case: &mut Case, chain: Chain, number: usize, slots: usize, order:
     exercise::look_up(case, &[first, middle, last, middle + 1, last + 1]);
     exercise::take_out_and_put_back(case, &[first, middle, last]);
     exercise::steps(case, Place::new(middle, u64::MAX), 2);
-    case.call(Call::Insert { key: last + 1 });
-    let room = 15 + 44 * slots;
+    case.call(Call::insert(last + 1));
+    let room = 15 + 50 * slots;
     case.call(Call::Write { room });
     exercise::read(case, slots, order, &keys);
-    let image = image_of(order, &keys);
+    let image = measured_image(order, &random_set(&keys, &mut case.random));
     let room = 10 * image.len();
     case.refused(Call::List { image, room }, 0);
 }

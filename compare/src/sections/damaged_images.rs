@@ -6,7 +6,9 @@ use crate::call::Call;
 use crate::case::{Case, Tally};
 use crate::generator::spoil_image;
 use crate::keys::{keys_outranking, Chain};
-use crate::tables::image_of;
+use crate::measures::random_set;
+use crate::tables::{image_of, measured_image};
+use reference::measure::Measure;
 use reference::priority::TIES;
 
 pub const SECTION: Section = Section {
@@ -18,6 +20,7 @@ const SLOTS: usize = 8;
 const HEADER: usize = 15;
 const BLOCK: usize = 14;
 const NODE: usize = 30;
+const MEASURED_NODE: usize = 36;
 /// Where a header and a block record keep their number of blocks or keys.
 const BLOCKS_IN_HEADER: usize = 5;
 const KEYS_IN_BLOCK: usize = 12;
@@ -37,14 +40,23 @@ fn run(tally: &mut Tally) {
     }
 }
 
+/// Images with no key measured, with some and with all.
 fn small_images() -> Vec<Vec<u8>> {
     let (a, b) = TIES[2];
+    let least = Measure::new(10_000, -5_000);
+    let greatest = Measure::new(40_000, 5_000);
+    let every_second = |(i, key)| match i % 2 {
+        0 => (key, Measure::NONE),
+        _ => (key, Measure::new(26_500, -120)),
+    };
+    let chain = Chain::Right.keys(4).into_iter().enumerate();
     vec![
         image_of(3, &[]),
         image_of(255, &[5]),
-        image_of(3, &[1, u64::MAX]),
-        image_of(4, &[a, b]),
-        image_of(3, &Chain::Right.keys(4)),
+        measured_image(255, &[(5, least)].into()),
+        measured_image(3, &[(1, Measure::NONE), (u64::MAX, greatest)].into()),
+        measured_image(4, &[(a, least), (b, greatest)].into()),
+        measured_image(3, &chain.map(every_second).collect()),
         // Example E: four blocks at three levels, two of one leader.
         image_of(3, &keys_outranking(&[6, 0, 1, 2, 3, 4, 5])),
     ]
@@ -72,7 +84,17 @@ fn every_length(case: &mut Case, image: &[u8]) {
         read_and_list(case, image[..length].to_vec());
     }
     let record_after = [b"LB".to_vec(), vec![0; BLOCK - 2]].concat();
-    for more in [&b"\0"[..], b"L", b"LB", b"LN", &record_after, image] {
+    let measure = [0; MEASURED_NODE - NODE];
+    for more in [
+        &b"\0"[..],
+        b"L",
+        b"LB",
+        b"LN",
+        b"LM",
+        &measure,
+        &record_after,
+        image,
+    ] {
         read_and_list(case, [image, more].concat());
         read_and_list(case, [more, image].concat());
     }
@@ -99,6 +121,7 @@ fn records(image: &[u8]) -> Vec<Vec<u8>> {
         let length = match &rest[..2] {
             b"LH" => HEADER,
             b"LB" => BLOCK,
+            b"LM" => MEASURED_NODE,
             _ => NODE,
         };
         let (record, after) = rest.split_at(length);
@@ -140,7 +163,7 @@ fn parts_by_block(image: &[u8]) -> Vec<Vec<u8>> {
     let mut parts: Vec<Vec<u8>> = vec![];
     for record in records(image) {
         match parts.last_mut() {
-            Some(part) if record.starts_with(b"LN") => part.extend(record),
+            Some(part) if !record.starts_with(b"LB") => part.extend(record),
             _ => parts.push(record),
         }
     }
@@ -191,7 +214,8 @@ fn broken(case: &mut Case, records: &[Vec<u8>], start: usize, middle: usize) {
 /// Random damage of an image of many keys.
 fn large(case: &mut Case, number: usize, damages: usize) {
     let order = case.random.order();
-    let image = image_of(order, &case.random.keys(number));
+    let keys = case.random.keys(number);
+    let image = measured_image(order, &random_set(&keys, &mut case.random));
     exercise::lend_rubbish(case, number);
     for _ in 0..damages {
         let mut damaged = image.clone();

@@ -6,10 +6,13 @@ use crate::batches::random_batch;
 use crate::call::{Call, Place};
 use crate::case::{Case, Tally};
 use crate::keys::{keys_with_home, Chain};
+use crate::measures;
 use crate::random::Random;
-use crate::tables::{keys_in, slot_start, slots_of, sound_table};
+use crate::tables::{is_measure_word, keys_in, measured_table, slot_start, slots_of, sound_table};
+use reference::measure::Measure;
 use reference::priority::TIES;
 use reference::table::SLOT_WORDS;
+use reference::Set;
 
 pub const SECTION: Section = Section {
     name: "damaged-tables",
@@ -36,19 +39,35 @@ fn run(tally: &mut Tally) {
     }
 }
 
+/// Tables with no key measured, with some and with all.
 fn small_tables() -> Vec<Vec<u64>> {
     let (a, b) = TIES[1];
+    let least = Measure::new(10_000, -5_000);
+    let greatest = Measure::new(40_000, 5_000);
     vec![
         sound_table(1, 3, &[]),
         sound_table(1, 255, &[9]),
-        sound_table(2, 3, &[1, u64::MAX]),
-        sound_table(2, 5, &[a, b]),
+        measured_table(2, 3, &[(1, least), (u64::MAX, Measure::NONE)].into()),
+        measured_table(2, 5, &[(a, greatest), (b, Measure::new(26_500, 0))].into()),
         sound_table(3, 4, &keys_with_home(0, 3, 2, 2)),
-        sound_table(3, 3, &[1, 2, 3]),
+        measured_table(
+            3,
+            3,
+            &[(1, Measure::NONE), (2, greatest), (3, least)].into(),
+        ),
         sound_table(7, 3, &Chain::Right.keys(5)),
-        sound_table(7, 3, &[1, 2, 3, 4, 5, 6, 7]),
-        sound_table(8, 3, &[1, 2, 3, 4, 5, 6, 7]),
+        measured_table(7, 3, &first_seven(1)),
+        measured_table(8, 3, &first_seven(2)),
     ]
+}
+
+/// Keys 1 to 7, each so many-th measured.
+fn first_seven(each: u64) -> Set {
+    let measure = |key: u64| match key % each {
+        0 => Measure::new(20_000 + key, 3 - key as i32),
+        _ => Measure::NONE,
+    };
+    (1..=7).map(|key| (key, measure(key))).collect()
 }
 
 /// One word changed in many ways. Small tables get each of its bits changed.
@@ -64,6 +83,9 @@ fn one_word(case: &mut Case, table: &[u64], word: usize) {
         false => vec![0, 1, 8, 16, 32, 63],
     };
     news.extend(bits.iter().map(|bit| old ^ (1 << bit)));
+    if is_measure_word(word) {
+        news.extend([9_999, 10_000, 40_000, 40_001, 5_000, 10_001]);
+    }
     news.retain(|&new| new != old);
     for new in news {
         let mut damaged = table.to_vec();
@@ -155,6 +177,7 @@ fn calls(keys: &[u64], random: &mut Random) -> [Call; 7] {
     [
         Call::Insert {
             key: random.number().max(1),
+            measure: measures::right(random),
         },
         Call::Delete { key: held },
         Call::LookUp { key: held },
@@ -170,7 +193,7 @@ fn calls(keys: &[u64], random: &mut Random) -> [Call; 7] {
             place: Place::new(next, u64::MAX),
         },
         Call::Write {
-            room: 15 + 44 * (keys.len() + 1),
+            room: 15 + 50 * (keys.len() + 1),
         },
     ]
 }

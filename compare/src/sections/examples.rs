@@ -159,6 +159,7 @@ fn try_example(case: &mut Case, example: &Example) {
     let names = Names::new(example.falling);
     let slots = names.real.len() + 2;
     exercise::everything(case, slots, ORDER, &names.real);
+    case.lend_sound(slots, ORDER, &names.real);
     told(case, "rank", &names.real, example.ranks);
     told(case, "count", &names.real, example.counts);
     told(
@@ -240,8 +241,8 @@ fn example_h(case: &mut Case) {
     }
     let (upper, lower) = (pair[0], pair[1]);
     case.lend_sound(3, ORDER, &[]);
-    slots_after(case, Call::Insert { key: lower }, [0, 0, lower]);
-    slots_after(case, Call::Insert { key: upper }, [lower, 0, upper]);
+    slots_after(case, Call::insert(lower), [0, 0, lower]);
+    slots_after(case, Call::insert(upper), [lower, 0, upper]);
     slots_after(case, Call::Delete { key: upper }, [0, 0, lower]);
 }
 
@@ -275,15 +276,15 @@ fn bytes_are(case: &mut Case, call: Call, due: &[u8]) {
     });
 }
 
-/// "9 and 24,579 words accepted; 3, 8, 10 and 24,585 refused; orders 3 and 255
-/// accepted, 2 and 256 refused."
+/// "the run takes 11 and 32,771, not 3, 10, 12 or 32,779" (document 02); "orders 3 and
+/// 255 accepted, 2 and 256 refused."
 fn lengths_and_orders(case: &mut Case) {
-    let lengths = [(9, 0), (24_579, 0), (3, 1), (8, 1), (10, 1), (24_585, 1)];
+    let lengths = [(11, 0), (32_771, 0), (3, 1), (10, 1), (12, 1), (32_779, 1)];
     for (length, refusal) in lengths {
         case.table = vec![7; length];
         case.refused(Call::SetUp { order: ORDER }, refusal);
     }
-    case.table = vec![7; 9];
+    case.table = vec![7; 11];
     for (order, refusal) in [(3, 0), (255, 0), (2, 2), (256, 2)] {
         case.refused(Call::SetUp { order }, refusal);
     }

@@ -2,7 +2,9 @@
 
 use crate::call::{Call, Place};
 use crate::case::Case;
-use crate::tables::{image_of, keys_in, listing_length, table_length};
+use crate::list::List;
+use crate::measures::{self, random_set};
+use crate::tables::{image_length, keys_in, listing_length, measured_image, table_length};
 
 /// Lends words that are no table's.
 pub fn lend_rubbish(case: &mut Case, slots: usize) {
@@ -10,10 +12,11 @@ pub fn lend_rubbish(case: &mut Case, slots: usize) {
     case.table = words.collect();
 }
 
-/// Builds over rubbish; with more keys than slots that is refused.
+/// Builds over rubbish, the keys measured or not; with more keys than slots that is
+/// refused.
 pub fn build(case: &mut Case, slots: usize, order: u64, keys: &[u64]) {
     lend_rubbish(case, slots);
-    let list = keys.to_vec();
+    let list = List::of(&random_set(keys, &mut case.random));
     let refusal = if keys.len() > slots { 10 } else { 0 };
     case.refused(Call::Build { order, list }, refusal);
 }
@@ -21,18 +24,18 @@ pub fn build(case: &mut Case, slots: usize, order: u64, keys: &[u64]) {
 /// Writes the table's image into an output that is just long enough, too short
 /// and too long.
 pub fn write(case: &mut Case) {
-    let length = image_of(case.table[0], &keys_in(&case.table)).len();
+    let length = image_length(&case.table);
     case.refused(Call::Write { room: length }, 0);
     case.refused(Call::Write { room: length - 1 }, 11);
     case.refused(Call::Write { room: length + 7 }, 0);
 }
 
-/// Reads the image of an order and a set over rubbish; the table that was lent
-/// before is lent again afterwards.
+/// Reads the image of an order and the keys, measured or not, over rubbish; the table
+/// that was lent before is lent again afterwards.
 pub fn read(case: &mut Case, slots: usize, order: u64, keys: &[u64]) {
     let before = case.table.clone();
     lend_rubbish(case, slots);
-    let image = image_of(order, keys);
+    let image = measured_image(order, &random_set(keys, &mut case.random));
     let refusal = if keys.len() > slots { 10 } else { 0 };
     case.refused(Call::Read { image }, refusal);
     case.table = before;
@@ -40,7 +43,7 @@ pub fn read(case: &mut Case, slots: usize, order: u64, keys: &[u64]) {
 
 /// Lists the image into outputs of three lengths.
 pub fn list(case: &mut Case, order: u64, keys: &[u64]) {
-    let image = image_of(order, keys);
+    let image = measured_image(order, &random_set(keys, &mut case.random));
     let length = listing_length(order, keys);
     for (room, refusal) in [(length, 0), (length - 1, 11), (length + 5, 0)] {
         let image = image.clone();
@@ -81,12 +84,19 @@ pub fn steps(case: &mut Case, from: Place, most: usize) {
     }
 }
 
-/// Deletes each of the keys and inserts it again, from the first to the last.
+/// Deletes each of the keys and inserts it again, measured or not, from the first to
+/// the last.
 pub fn take_out_and_put_back(case: &mut Case, keys: &[u64]) {
     for &key in keys {
         case.refused(Call::Delete { key }, 0);
-        case.refused(Call::Insert { key }, 0);
+        insert(case, key, 0);
     }
+}
+
+/// Inserts a key, measured or not.
+pub fn insert(case: &mut Case, key: u64, refusal: u64) {
+    let measure = measures::right(&mut case.random);
+    case.refused(Call::Insert { key, measure }, refusal);
 }
 
 /// All of the above but the last on a table built from the keys.

@@ -53,7 +53,7 @@ fn both_ends(case: &mut Case, slots: usize) {
     exercise::steps(case, place, 3);
     case.refused(Call::Delete { key: u64::MAX }, 0);
     exercise::steps(case, place, 3);
-    case.refused(Call::Insert { key: u64::MAX }, 0);
+    exercise::insert(case, u64::MAX, 0);
     exercise::steps(case, place, 3);
     exercise::steps(case, Place::SPENT, 2);
     case.refused(Call::Delete { key: 1 }, 0);

@@ -3,7 +3,8 @@
 use super::{damaged_images, damaged_tables, Section};
 use crate::case::{Case, Tally};
 use crate::keys::parts;
-use crate::tables::{image_of, slots_of, sound_table};
+use crate::measures::random_set;
+use crate::tables::{image_of, measured_image, measured_table, slots_of, sound_table};
 use reference::priority::{priority, Priority, TIES};
 use reference::{image, table, Contents};
 
@@ -57,14 +58,15 @@ fn try_both(case: &mut Case, keys: &[u64], table: Vec<u64>, image: Vec<u8>) {
 /// would allow.
 fn a_key_twice(case: &mut Case, slots: usize, keys: &[u64], (a, b): (u64, u64)) {
     let order = case.random.order();
+    let set = random_set(keys, &mut case.random);
     for (gone, twice) in [(a, b), (b, a)] {
-        let mut table = sound_table(slots, order, keys);
+        let mut table = measured_table(slots, order, &set);
         for word in &mut table {
             if *word == gone {
                 *word = twice;
             }
         }
-        let mut image = image_of(order, keys);
+        let mut image = measured_image(order, &set);
         replace(&mut image, &gone.to_le_bytes(), &twice.to_le_bytes());
         try_both(case, keys, table, image);
     }
@@ -93,7 +95,7 @@ fn other_priority(case: &mut Case, slots: usize, keys: &[u64]) {
 fn with_priority(case: &mut Case, slots: usize, keys: &[u64], priority: Priority) {
     let contents = Contents {
         order: case.random.order(),
-        keys: keys.to_vec(),
+        set: random_set(keys, &mut case.random),
     };
     let table = table::words(priority, &contents, slots);
     let image = image::image(priority, &contents);

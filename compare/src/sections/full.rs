@@ -3,7 +3,8 @@
 use super::{exercise, Section, SLOTS};
 use crate::call::Call;
 use crate::case::{Case, Tally};
-use crate::tables::image_of;
+use crate::measures::random_set;
+use crate::tables::measured_image;
 use reference::MOST_SLOTS;
 
 pub const SECTION: Section = Section { name: "full", run };
@@ -31,12 +32,12 @@ fn filled(case: &mut Case, slots: usize) {
     exercise::write(case);
     exercise::whole_range(case);
     exercise::look_up(case, &[held, fresh]);
-    case.refused(Call::Insert { key: held }, 8);
-    case.refused(Call::Insert { key: fresh }, 10);
+    exercise::insert(case, held, 8);
+    exercise::insert(case, fresh, 10);
     case.refused(Call::Delete { key: fresh }, 9);
     case.refused(Call::Delete { key: held }, 0);
-    case.refused(Call::Insert { key: fresh }, 0);
-    case.refused(Call::Insert { key: held }, 10);
+    exercise::insert(case, fresh, 0);
+    exercise::insert(case, held, 10);
     exercise::read(case, slots, order, &keys);
     exercise::list(case, order, &keys);
 }
@@ -47,7 +48,7 @@ fn one_too_many(case: &mut Case, slots: usize) {
     let keys = case.random.keys(slots + 1);
     exercise::build(case, slots, order, &keys);
     exercise::build(case, slots, order, &keys[..slots]);
-    let image = image_of(order, &keys);
+    let image = measured_image(order, &random_set(&keys, &mut case.random));
     let read_refusal = if slots < MOST_SLOTS { 10 } else { 6 };
     let list_refusal = if slots < MOST_SLOTS { 0 } else { 6 };
     let room = 10 * image.len();

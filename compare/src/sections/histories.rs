@@ -5,6 +5,8 @@ use super::{exercise, Section, SLOTS};
 use crate::call::Call;
 use crate::case::{Case, Tally};
 use crate::generator::{load, Generator};
+use crate::list::List;
+use crate::measures::random_set;
 
 pub const SECTION: Section = Section {
     name: "histories",
@@ -43,7 +45,8 @@ fn history(case: &mut Case, slots: usize, calls: usize) {
     case.refused(first, 0);
     if slots > 3 {
         let number = case.random.fill(slots);
-        let list = case.random.keys(number);
+        let keys = case.random.keys(number);
+        let list = List::of(&random_set(&keys, &mut case.random));
         case.refused(Call::Build { order, list }, 0);
     }
     let mut generator = Generator::new(slots);

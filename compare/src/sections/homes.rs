@@ -49,9 +49,9 @@ fn many(case: &mut Case, slots: usize, home: usize, number: usize) {
     exercise::look_up(case, &some);
     let fresh = keys_with_home(some[2], slots, (home + 1) % slots, 1)[0];
     case.refused(Call::Delete { key: some[1] }, 0);
-    case.refused(Call::Insert { key: fresh }, 0);
+    exercise::insert(case, fresh, 0);
     case.refused(Call::Delete { key: fresh }, 0);
-    case.refused(Call::Insert { key: some[1] }, 0);
+    exercise::insert(case, some[1], 0);
 }
 
 /// Two runs of keys that grow into each other, with keys of the slots between.
@@ -68,7 +68,7 @@ fn two_runs(case: &mut Case, slots: usize, home: usize) {
     case.lend_sound(slots, order, &[]);
     case.random.shuffle(&mut keys);
     for &key in &keys {
-        case.refused(Call::Insert { key }, 0);
+        exercise::insert(case, key, 0);
     }
     case.random.shuffle(&mut keys);
     for &key in &keys {

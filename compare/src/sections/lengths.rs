@@ -5,7 +5,9 @@ use super::Section;
 use crate::archive::Empty;
 use crate::call::{Call, Place};
 use crate::case::{Case, Tally};
-use crate::tables::{image_of, slots_of, table_length};
+use crate::list::List;
+use crate::tables::{image_of, measured_image, slots_of, table_length};
+use reference::measure::Measure;
 use reference::MOST_SLOTS;
 
 pub const SECTION: Section = Section {
@@ -42,16 +44,16 @@ fn each_call(case: &mut Case, length: usize) {
 fn sensible_calls() -> [Call; 10] {
     [
         Call::SetUp { order: 255 },
-        Call::Build {
-            order: 4,
-            list: vec![7],
-        },
+        Call::build(4, &[7]),
         Call::Load {
             order: 5,
             seed: 11,
             count: 13,
         },
-        Call::Insert { key: u64::MAX },
+        Call::Insert {
+            key: u64::MAX,
+            measure: Measure::new(10_000, -5_000),
+        },
         Call::LookUp { key: 1 },
         Call::LookUpBatch {
             keys: vec![1, 7, u64::MAX],
@@ -66,7 +68,7 @@ fn sensible_calls() -> [Call; 10] {
         },
         Call::Write { room: 20 },
         Call::Read {
-            image: image_of(9, &[3]),
+            image: measured_image(9, &[(3, Measure::new(40_000, 5_000))].into()),
         },
     ]
 }
@@ -82,12 +84,26 @@ fn nothing(case: &mut Case, empty: Empty) {
     case.refused(Call::LookUpBatch { keys: vec![] }, 1);
     nothing_for_a_table(case, &[]);
     nothing_for_a_table(case, &[5, 6]);
-    let (order, list) = (3, vec![]);
-    case.refused(Call::Build { order, list }, 0);
+    case.refused(Call::build(3, &[]), 0);
+    nothing_for_a_list(case);
     let image = vec![];
     case.refused(Call::List { image, room: 0 }, 6);
     let image = image_of(3, &[]);
     case.refused(Call::List { image, room: 0 }, 11);
+}
+
+/// One list or two with nothing in them, where another has something.
+fn nothing_for_a_list(case: &mut Case) {
+    let order = 3;
+    for bits in 1..7 {
+        let number = |bit: usize| bits >> bit & 1;
+        let list = List {
+            keys: vec![5; number(0)],
+            lengths: vec![0; number(1)],
+            corrections: vec![0; number(2)],
+        };
+        case.refused(Call::Build { order, list }, 12);
+    }
 }
 
 /// Batches, ranges and images that are empty or have nowhere to go.

@@ -5,6 +5,7 @@ use super::{exercise, Section};
 use crate::call::Call;
 use crate::case::{Case, Tally};
 use crate::generator::BAD_ORDERS;
+use crate::measures::random_set;
 use crate::tables::{make_unsound, table_length};
 use reference::load::{operations, Operation};
 
@@ -78,7 +79,8 @@ fn over_other_words(case: &mut Case, slots: usize) {
     let keys = case.random.keys(slots);
     for damaged in [false, true] {
         for order in [3, 200] {
-            case.lend_sound(slots, order, &keys);
+            let set = random_set(&keys, &mut case.random);
+            case.lend_measured(slots, order, &set);
             if damaged {
                 make_unsound(&mut case.table);
             }
@@ -98,7 +100,7 @@ fn turned_down(case: &mut Case, slots: usize) {
         for order in BAD_ORDERS {
             case.refused(Call::Load { order, seed, count }, 2);
         }
-        for length in [0, 3, 8, 10, table_length(slots) - 1, 24_585] {
+        for length in [0, 3, 10, 12, table_length(slots) - 1, 32_779] {
             case.table.resize(length, seed);
             for order in [3, 16, 255, 2, 256] {
                 case.refused(Call::Load { order, seed, count }, 1);
@@ -115,7 +117,7 @@ fn one_by_one(case: &mut Case, slots: usize) {
     case.refused(Call::SetUp { order }, 0);
     for operation in operations(seed, count) {
         case.call(match operation {
-            Operation::Insert(key) => Call::Insert { key },
+            Operation::Insert(key) => Call::insert(key),
             Operation::Delete(key) => Call::Delete { key },
             Operation::LookUp(key) => Call::LookUp { key },
         });

@@ -4,7 +4,10 @@
 use super::{exercise, Section};
 use crate::call::Call;
 use crate::case::{Case, Tally};
-use crate::tables::image_of;
+use crate::list::List;
+use crate::tables::{image_of, measured_image, set_in};
+use reference::measure::Measure;
+use reference::Set;
 
 pub const SECTION: Section = Section { name: "long", run };
 
@@ -29,14 +32,41 @@ fn long_list(case: &mut Case, number: u64) {
     for slots in [1, 64, 4096] {
         exercise::lend_rubbish(case, slots);
         let order = case.random.order();
-        let mut list = rising.clone();
-        case.refused(Call::Build { order, list }, 10);
+        case.refused(Call::build(order, &rising), 10);
         for (place, key) in [(0, 0), (last, 0), (last, 1), (last / 2, 1)] {
-            list = rising.clone();
-            list[place] = key;
-            case.refused(Call::Build { order, list }, 5);
+            let mut keys = rising.clone();
+            keys[place] = key;
+            case.refused(Call::build(order, &keys), 5);
         }
+        long_measures(case, order, &rising);
     }
+}
+
+/// A measure outside the rules is found at either end, and lists of other lengths,
+/// also where a length cut to two bytes would be right.
+fn long_measures(case: &mut Case, order: u64, rising: &[u64]) {
+    let (right, number) = (List::unmeasured(rising), rising.len());
+    for place in [0, number / 2, number - 1] {
+        let mut list = right.clone();
+        list.lengths[place] = 9_999;
+        case.refused(Call::Build { order, list }, 12);
+        let mut list = right.clone();
+        list.corrections[place] = 1;
+        case.refused(Call::Build { order, list }, 12);
+    }
+    for more in [1, 65_536] {
+        let mut list = right.clone();
+        list.lengths.resize(number + more, 0);
+        case.refused(Call::Build { order, list }, 12);
+        let mut list = right.clone();
+        list.corrections.resize(number + more, 0);
+        case.refused(Call::Build { order, list }, 12);
+    }
+    let list = List {
+        keys: vec![rising[0]],
+        ..right
+    };
+    case.refused(Call::Build { order, list }, 12);
 }
 
 /// As many lines are no fault; one at either end is found.
@@ -55,20 +85,29 @@ fn long_batch(case: &mut Case, number: u64) {
     }
 }
 
-/// The image of one key with so many node records more; the same with zeros;
-/// and, as far as two bytes can count, the image that so many keys would have.
+/// The image of one key with so many node records more, of either kind; the same
+/// with zeros; and, as far as two bytes can count, the image that so many keys would
+/// have.
 fn long_image(case: &mut Case, number: u64) {
     exercise::lend_rubbish(case, 7);
-    let one = image_of(3, &[5]);
-    let node = &one[one.len() - 30..];
-    let mut nodes = one.clone();
-    (0..number).for_each(|_| nodes.extend(node));
-    not_an_image(case, nodes);
-    let zeros = vec![0; 30 * number as usize];
-    not_an_image(case, [one, zeros].concat());
+    let measure = Measure::new(26_500, 0);
+    let measured = |key: u64| (key, measure);
+    for (one, length) in [
+        (image_of(3, &[5]), 30),
+        (measured_image(3, &[measured(5)].into()), 36),
+    ] {
+        let node = &one[one.len() - length..];
+        let mut nodes = one.clone();
+        (0..number).for_each(|_| nodes.extend(node));
+        not_an_image(case, nodes);
+        let zeros = vec![0; length * number as usize];
+        not_an_image(case, [one, zeros].concat());
+    }
     if number < MORE_THAN_TWO_BYTES {
         let keys: Vec<u64> = (1..=number).collect();
         not_an_image(case, image_of(3, &keys));
+        let set: Set = (1..=number).map(measured).collect();
+        not_an_image(case, measured_image(3, &set));
     }
 }
 
@@ -87,6 +126,6 @@ fn long_output(case: &mut Case, slots: usize) {
     let (low, high) = (0, u64::MAX);
     case.refused(Call::Range { low, high, room }, 0);
     case.refused(Call::Write { room }, 0);
-    let image = image_of(order, &keys);
+    let image = measured_image(order, &set_in(&case.table));
     case.refused(Call::List { image, room }, 0);
 }

@@ -5,6 +5,7 @@ use crate::case::Tally;
 mod batches;
 mod chains;
 mod damaged_images;
+mod damaged_measures;
 mod damaged_tables;
 mod examples;
 mod exercise;
@@ -17,6 +18,7 @@ mod lengths;
 mod listings;
 mod loads;
 mod long;
+mod measures;
 mod refusals;
 mod sets;
 mod shapes;
@@ -34,7 +36,7 @@ pub struct Section {
 }
 
 /// All sections; the longest first, so that threads finish together.
-pub const SECTIONS: [Section; 21] = [
+pub const SECTIONS: [Section; 23] = [
     loads::SECTION,
     batches::SECTION,
     histories::SECTION,
@@ -49,6 +51,8 @@ pub const SECTIONS: [Section; 21] = [
     damaged_tables::SECTION,
     damaged_images::SECTION,
     forged::SECTION,
+    measures::SECTION,
+    damaged_measures::SECTION,
     listings::SECTION,
     refusals::SECTION,
     lengths::SECTION,

@@ -1,13 +1,20 @@
 //! Every call with every set of the faults that it can be turned down for: the
-//! lowest number is given, and 0 where there is no fault.
+//! first in the order in which the call checks is given, and 0 where there is no
+//! fault.
 
 use super::Section;
 use crate::call::{Call, Place};
 use crate::case::{Case, Tally};
 use crate::generator::{spoil_list, BAD_ORDERS};
 use crate::keys::parts;
+use crate::list::List;
+use crate::measures::{spoil_measures, CORNERS, WRONG};
 use crate::random::Random;
-use crate::tables::{image_of, listing_length, make_unsound, slot_start, sound_table};
+use crate::tables::{
+    image_length, length_word, listing_length, make_unsound, measured_image, measured_table,
+    slot_start, sound_table,
+};
+use reference::Set;
 
 pub const SECTION: Section = Section {
     name: "refusals",
@@ -15,7 +22,7 @@ pub const SECTION: Section = Section {
 };
 
 /// Each set of faults is arranged in so many ways.
-const WAYS: usize = 24;
+const WAYS: usize = 27;
 
 const SLOTS: usize = 3;
 const ORDER: u64 = 3;
@@ -26,8 +33,8 @@ const SETS: [&[u64]; 3] = [&[], &FEW, &FULL];
 const HELD: u64 = 20;
 const ABSENT: u64 = 25;
 
-/// Faults by the numbers of their refusals, and which of the ways to arrange
-/// them.
+/// Faults by the numbers of their refusals, in the order in which the call checks,
+/// and which of the ways to arrange them.
 struct Faults {
     numbers: Vec<u64>,
     way: usize,
@@ -38,13 +45,21 @@ impl Faults {
         self.numbers.contains(&number)
     }
 
-    /// The lowest number that applies.
-    fn lowest(&self) -> u64 {
-        self.numbers.iter().copied().min().unwrap_or(0)
+    /// The number that is checked before the others.
+    fn first(&self) -> u64 {
+        self.numbers.first().copied().unwrap_or(0)
     }
 
     fn pick<T: Copy>(&self, from: &[T]) -> T {
         from[self.way % from.len()]
+    }
+
+    /// The keys with right measures, not the same in every way; in the first way none
+    /// is measured.
+    fn set(&self, keys: &[u64]) -> Set {
+        let measure = |i: usize| CORNERS[self.way * i % CORNERS.len()];
+        let keys = keys.iter().enumerate();
+        keys.map(|(i, &key)| (key, measure(i + 1))).collect()
     }
 
     /// The first if there is the fault, else the second.
@@ -57,7 +72,8 @@ impl Faults {
     }
 }
 
-/// The refusals of a call, and the call with some of them.
+/// The refusals of a call in the order in which it checks, and the call with some of
+/// them.
 struct Kind {
     refusals: &'static [u64],
     call: fn(&Faults) -> Call,
@@ -69,7 +85,7 @@ const KINDS: [Kind; 12] = [
         call: set_up,
     },
     Kind {
-        refusals: &[1, 3, 7, 8, 10],
+        refusals: &[1, 3, 12, 7, 8, 10],
         call: insert,
     },
     Kind {
@@ -93,7 +109,7 @@ const KINDS: [Kind; 12] = [
         call: step,
     },
     Kind {
-        refusals: &[1, 2, 5, 10],
+        refusals: &[1, 2, 5, 12, 10],
         call: build,
     },
     Kind {
@@ -132,18 +148,18 @@ fn try_faults(case: &mut Case, kind: &Kind, faults: &Faults) {
     // A table with no free slot is a fault of an insert alone.
     let full = faults.has(10) && kind.refusals.contains(&8);
     case.table = table(faults, full);
-    case.refused((kind.call)(faults), faults.lowest());
+    case.refused((kind.call)(faults), faults.first());
 }
 
 fn table(faults: &Faults, full: bool) -> Vec<u64> {
     let keys = if full { &FULL[..] } else { &FEW };
-    let mut table = sound_table(SLOTS, ORDER, keys);
+    let mut table = measured_table(SLOTS, ORDER, &faults.set(keys));
     if faults.has(7) {
         damage(faults, &mut table);
     }
     if faults.has(1) {
         let length = table.len();
-        let lengths = [length + 1, length - 1, 0, 1, 3, 8, 10, 24_585, 24_578];
+        let lengths = [length + 1, length - 1, 0, 1, 3, 10, 12, 32_779, 32_770];
         table.resize(faults.pick(&lengths), 0);
     }
     table
@@ -151,12 +167,14 @@ fn table(faults: &Faults, full: bool) -> Vec<u64> {
 
 fn damage(faults: &Faults, table: &mut [u64]) {
     let last = table.len() - 1;
-    match faults.way % 6 {
+    match faults.way % 8 {
         0 => make_unsound(table),
         1 => table[0] = 2,
         2 => table[0] = 256,
-        3 => table[last] += 1,
+        3 => table[last] = 10_001,
         4 => table[slot_start(0)] ^= HELD,
+        5 => table[length_word(0)] = 9_999,
+        6 => table[length_word(1)] = 40_001,
         _ => table.fill(0),
     }
 }
@@ -172,14 +190,27 @@ fn set_up(faults: &Faults) -> Call {
 }
 
 fn build(faults: &Faults) -> Call {
-    let mut list = faults
-        .choose(10, &TOO_MANY[..], faults.pick(&SETS))
-        .to_vec();
+    let keys = faults.choose(10, &TOO_MANY[..], faults.pick(&SETS));
+    let mut list = List::of(&faults.set(keys));
+    let mut random = Random::new(faults.way as u64);
+    if faults.has(12) {
+        spoil_measures(&mut list, &mut random);
+    }
     if faults.has(5) {
-        spoil_list(&mut list, &mut Random::new(faults.way as u64));
+        spoil_list(&mut list.keys, &mut random);
+        keep_to(&mut list, faults);
     }
     let order = order(faults);
     Call::Build { order, list }
+}
+
+/// Spoiling may have made one key of none, for which there is no measure; that is no
+/// fault unless it is to be one.
+fn keep_to(list: &mut List, faults: &Faults) {
+    if !faults.has(12) {
+        list.lengths.resize(list.keys.len(), 0);
+        list.corrections.resize(list.keys.len(), 0);
+    }
 }
 
 fn load(faults: &Faults) -> Call {
@@ -191,7 +222,8 @@ fn load(faults: &Faults) -> Call {
 fn insert(faults: &Faults) -> Call {
     let key = faults.choose(8, HELD, ABSENT);
     let key = faults.choose(3, 0, key);
-    Call::Insert { key }
+    let measure = faults.choose(12, faults.pick(&WRONG), faults.pick(&CORNERS));
+    Call::Insert { key, measure }
 }
 
 fn delete(faults: &Faults) -> Call {
@@ -235,7 +267,7 @@ fn step(faults: &Faults) -> Call {
 }
 
 fn write(faults: &Faults) -> Call {
-    let length = image_of(ORDER, &FEW).len();
+    let length = image_length(&measured_table(SLOTS, ORDER, &faults.set(&FEW)));
     let short = faults.pick(&[length - 1, 0, 15, 30]);
     let room = faults.choose(11, short, length + faults.way % 3);
     Call::Write { room }
@@ -243,7 +275,7 @@ fn write(faults: &Faults) -> Call {
 
 fn image(faults: &Faults) -> Vec<u8> {
     let keys = faults.choose(10, &TOO_MANY[..], faults.pick(&SETS));
-    let mut image = image_of(ORDER, keys);
+    let mut image = measured_image(ORDER, &faults.set(keys));
     if faults.has(6) {
         let part = faults.way * 7 % image.len();
         match faults.way % 4 {

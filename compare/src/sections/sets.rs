@@ -5,6 +5,7 @@ use crate::batches::random_batch;
 use crate::call::{Call, Place};
 use crate::case::{Case, Tally};
 use crate::generator::room;
+use crate::measures;
 
 pub const SECTION: Section = Section { name: "sets", run };
 
@@ -60,7 +61,8 @@ fn range(case: &mut Case, low: u64, high: u64, keys: &[u64]) {
 fn changes(case: &mut Case, slots: usize, keys: &[u64]) {
     for _ in 0..2 {
         let key = case.random.key(2 * slots + 3);
-        case.call(Call::Insert { key });
+        let measure = measures::any(10, &mut case.random);
+        case.call(Call::Insert { key, measure });
         case.call(Call::Delete { key });
         if !keys.is_empty() {
             let key = case.random.pick(keys);

@@ -6,7 +6,7 @@ use super::{exercise, Section};
 use crate::batches::with_neighbours;
 use crate::call::{Call, Place};
 use crate::case::{Case, Tally};
-use crate::tables::{image_of, listing_length};
+use crate::tables::{listing_length, measured_image, set_in};
 use reference::MOST_SLOTS;
 
 pub const SECTION: Section = Section { name: "sizes", run };
@@ -40,7 +40,7 @@ fn each_call(case: &mut Case, slots: usize, number: usize) {
     let fresh = keys.remove(case.random.below(number + 1));
     exercise::build(case, slots, order, &keys);
     let refusal = if number < slots { 0 } else { 10 };
-    case.refused(Call::Insert { key: fresh }, refusal);
+    exercise::insert(case, fresh, refusal);
     case.call(Call::Delete { key: fresh });
     exercise::look_up(case, &[fresh]);
     let batch = with_neighbours(&keys);
@@ -77,7 +77,7 @@ fn ranges(case: &mut Case, keys: &[u64]) {
 fn outputs(case: &mut Case, order: u64, keys: &[u64]) {
     let (low, high, room) = (0, u64::MAX, keys.len());
     case.refused(Call::Range { low, high, room }, 0);
-    let image = image_of(order, keys);
+    let image = measured_image(order, &set_in(&case.table));
     let room = image.len();
     case.refused(Call::Write { room }, 0);
     let room = listing_length(order, keys);

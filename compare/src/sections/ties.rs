@@ -58,7 +58,7 @@ fn all_at_once(case: &mut Case, slots: usize) {
     case.lend_sound(slots, order, &[]);
     case.random.shuffle(&mut keys);
     for &key in &keys {
-        case.refused(Call::Insert { key }, 0);
+        exercise::insert(case, key, 0);
     }
     exercise::look_up(case, &keys);
     case.random.shuffle(&mut keys);

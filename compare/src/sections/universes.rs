@@ -54,7 +54,7 @@ fn inserted(case: &mut Case, slots: usize, keys: &[u64]) {
     case.random.shuffle(&mut keys);
     for (i, &key) in keys.iter().enumerate() {
         let refusal = if i < slots { 0 } else { 10 };
-        case.refused(Call::Insert { key }, refusal);
+        exercise::insert(case, key, refusal);
     }
 }
 

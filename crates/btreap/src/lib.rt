@@ -3,7 +3,7 @@
 ghost use mathlib.Core.Path.{_≡_};
 ghost use Rattle.call_batch.specs.Batch.{batchReply, batchAfter};
 ghost use Rattle.call_step.specs.Steps.{stepReply, stepPlace};
-ghost use Rattle.call_meaning.specs.Calls.{setUpReply, setUpAfter, loadReply, loadAfter, buildReply, buildAfter, insertReply, insertAfter, deleteReply, deleteAfter, lookupReply, rangeReply, rangeOutput, writeReply, writeOutput, readReply, readAfter};
+ghost use Rattle.call_meaning.specs.Calls.{setUpReply, setUpAfter, loadReply, loadAfter, buildReply, buildAfter, insertReply, insertAfter, deleteReply, deleteAfter, lookupReply, lookupCorrection, rangeReply, rangeOutput, writeReply, writeOutput, readReply, readAfter};
 ghost use Rattle.call_list.specs.Listed.{listReply, listOutput};
 ghost use Rattle.btreap_structs.specs.Structs.{ranked, found, sized, stepped, placeGiven, markAfter};
 use btreap_structs::FoundReply;
@@ -22,13 +22,20 @@ pub extern "C" fn btreap_set_up(table: &mut [u64], order: u64) -> u64
     btreap_structs::set_up(answer)
 }
 
-// Make of any words of a right length the table of an order and a strictly rising list of keys. Refusals: 1, 2, 5, 10.
+// Make of any words of a right length the table of an order and a strictly rising list of keys with their measures: the lengths and the
+// corrections, one of each beside each key. Refusals: 1, 2, 5, 12, 10.
 #[no_mangle]
-pub extern "C" fn btreap_build(table: &mut [u64], order: u64, list: &[u64]) -> u64
-    ensures { λ r. ⌜ r ≡ buildReply (now (table .entry)) order (now (list .entry)) .refusal ⌝ }
-    ensures { λ _. ⌜ now (table .exit) ≡ buildAfter (now (table .entry)) order (now (list .entry)) ⌝ }
+pub extern "C" fn btreap_build(
+    table: &mut [u64],
+    order: u64,
+    keys: &[u64],
+    lengths: &[u64],
+    corrections: &[i32],
+) -> u64
+    ensures { λ r. ⌜ r ≡ buildReply (now (table .entry)) order (now (keys .entry)) (now (lengths .entry)) (now (corrections .entry)) .refusal ⌝ }
+    ensures { λ _. ⌜ now (table .exit) ≡ buildAfter (now (table .entry)) order (now (keys .entry)) (now (lengths .entry)) (now (corrections .entry)) ⌝ }
 {
-    let answer = index::build(table, order, list);
+    let answer = index::build(table, order, keys, lengths, corrections);
     btreap_structs::built(answer)
 }
 
@@ -42,13 +49,19 @@ pub extern "C" fn btreap_load(table: &mut [u64], order: u64, seed: u64, count: u
     btreap_structs::loaded(answer)
 }
 
-// Insert a key; the rank that it then has. Refusals: 1, 3, 7, 8, 10.
+// Insert a key with its length and its correction, both zero when it is not measured; the rank that it then has.
+// Refusals: 1, 3, 12, 7, 8, 10.
 #[no_mangle]
-pub extern "C" fn btreap_insert(table: &mut [u64], key: u64) -> RankedReply
-    ensures { λ r. ⌜ ranked r ≡ insertReply (now (table .entry)) key ⌝ }
-    ensures { λ _. ⌜ now (table .exit) ≡ insertAfter (now (table .entry)) key ⌝ }
+pub extern "C" fn btreap_insert(
+    table: &mut [u64],
+    key: u64,
+    length: u64,
+    correction: i32,
+) -> RankedReply
+    ensures { λ r. ⌜ ranked r ≡ insertReply (now (table .entry)) key (record { length = length; correction = correction }) ⌝ }
+    ensures { λ _. ⌜ now (table .exit) ≡ insertAfter (now (table .entry)) key (record { length = length; correction = correction }) ⌝ }
 {
-    let answer = index::insert(table, key);
+    let answer = index::insert(table, key, length, correction);
     btreap_structs::inserted(answer)
 }
 
@@ -62,10 +75,11 @@ pub extern "C" fn btreap_delete(table: &mut [u64], key: u64) -> RankedReply
     btreap_structs::deleted(answer)
 }
 
-// Look a key up: whether it is held, where it stands, and how many blocks hold the keys compared. Refusals: 1, 3, 7.
+// Look a key up: whether it is held, where it stands, with its measure, and how many blocks hold the keys compared. Refusals: 1, 3, 7.
 #[no_mangle]
 pub extern "C" fn btreap_lookup(table: &[u64], key: u64) -> FoundReply
     ensures { λ r. ⌜ found r ≡ lookupReply (now (table .entry)) key ⌝ }
+    ensures { λ r. ⌜ r .correction ≡ lookupCorrection (now (table .entry)) key ⌝ }
 {
     let answer = index::look_up(table, key);
     btreap_structs::looked_up(answer)

@@ -12,12 +12,17 @@ use Rattle.btreap_structs.specs.declared.SizedReply.{SizedReply}
 use Rattle.btreap_structs.specs.declared.SteppedReply.{SteppedReply}
 
 -- "`refusal` is 0 when the call was accepted; all other numbers of a reply are 0 when it was refused": each struct is the refusal and the
--- other numbers of a reply. A step's place (next, high, done) is no part of its reply, and comes back as it was passed.
+-- other numbers of a reply. A lookup's correction, the one number with a sign, is equated by itself. A step's place (next, high, done) is no
+-- part of its reply, and comes back as it was passed.
 abbrev pub ranked : RankedReply → Reply
 ranked r = record { refusal = r .refusal; numbers = r .rank ∷ [] }
 
 abbrev pub found : FoundReply → Reply
-found r = record { refusal = r .refusal; numbers = r .held ∷ r .rank ∷ r .count ∷ r .leader ∷ r .blocks ∷ [] }
+found r = record { refusal = r .refusal; numbers = r .held ∷ r .rank ∷ r .count ∷ r .leader ∷ r .blocks ∷ r .length ∷ [] }
+
+-- The reply of a lookup that found no key, or was refused.
+abbrev pub noneFound : ℕ → ℕ → Reply
+noneFound refusal blocks = record { refusal = refusal; numbers = 0 ∷ 0 ∷ 0 ∷ 0 ∷ blocks ∷ 0 ∷ [] }
 
 abbrev pub sized : SizedReply → Reply
 sized r = record { refusal = r .refusal; numbers = r .size ∷ [] }

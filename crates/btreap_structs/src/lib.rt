@@ -1,8 +1,10 @@
 // The answers of the calls as the structs of `include/btreap.h`: the number of a refusal, zero where there is none, and the other
 // numbers, zero where there is one.
 ghost use mathlib.Core.Path.{_≡_};
-ghost use Rattle.call_replies.specs.Replies.{numberOf, setUpOf, loadedOf, builtOf, insertedOf, deletedOf, lookedUpOf, batchedOf, rangedOf, steppedOf, writtenOf, readBackOf, listedOf};
-ghost use Rattle.btreap_structs.specs.Structs.{ranked, found, sized, stepped, markAfter};
+ghost use lib.IntN.{pos};
+ghost use Rattle.call_replies.specs.Replies.{numberOf, setUpOf, loadedOf, builtOf, insertedOf, deletedOf, lookedUpOf, correctionOf, batchedOf, rangedOf, steppedOf, writtenOf, readBackOf, listedOf};
+ghost use Rattle.call_replies.specs.declared.LookedUp.the-variants.{Held};
+ghost use Rattle.btreap_structs.specs.Structs.{ranked, found, noneFound, sized, stepped, markAfter};
 use call_replies::Batched;
 use call_replies::Built;
 use call_replies::Deleted;
@@ -16,6 +18,7 @@ use call_replies::Refusal;
 use call_replies::SetUp;
 use call_replies::Stepped;
 use call_replies::Written;
+use table_descend::Standing;
 
 // `btreap_ranked`.
 #[repr(C)]
@@ -24,7 +27,7 @@ pub struct RankedReply {
     pub rank: u64,
 }
 
-// `btreap_found`; `held` is one or zero.
+// `btreap_found`; `held` is one or zero. The correction, last, is the one number with a sign.
 #[repr(C)]
 pub struct FoundReply {
     pub refusal: u64,
@@ -33,6 +36,8 @@ pub struct FoundReply {
     pub count: u64,
     pub leader: u64,
     pub blocks: u64,
+    pub length: u64,
+    pub correction: i64,
 }
 
 // `btreap_sized`.
@@ -88,6 +93,37 @@ fn size_refused(reason: Refusal) -> SizedReply
     }
 }
 
+// The reply of a lookup that found the key, and of one that did not or was refused.
+fn found_given(standing: Standing, blocks: usize) -> FoundReply
+    ensures { λ r. ⌜ (found r ≡ lookedUpOf (Held standing blocks)) × (r .correction ≡ standing .correction) ⌝ }
+{
+    FoundReply {
+        refusal: 0,
+        held: 1,
+        rank: standing.rank,
+        count: standing.count,
+        leader: standing.leader,
+        blocks: blocks as u64,
+        length: standing.length,
+        correction: standing.correction,
+    }
+}
+
+fn none_found(refusal: u64, blocks: usize) -> FoundReply
+    ensures { λ r. ⌜ (found r ≡ noneFound refusal blocks) × (r .correction ≡ pos 0) ⌝ }
+{
+    FoundReply {
+        refusal,
+        held: 0,
+        rank: 0,
+        count: 0,
+        leader: 0,
+        blocks: blocks as u64,
+        length: 0,
+        correction: 0,
+    }
+}
+
 pub fn set_up(answer: SetUp) -> u64
     ensures { λ r. ⌜ r ≡ setUpOf answer .refusal ⌝ }
 {
@@ -135,32 +171,12 @@ pub fn deleted(answer: Deleted) -> RankedReply
 
 pub fn looked_up(answer: LookedUp) -> FoundReply
     ensures { λ r. ⌜ found r ≡ lookedUpOf answer ⌝ }
+    ensures { λ r. ⌜ r .correction ≡ correctionOf answer ⌝ }
 {
     match answer {
-        LookedUp::Held(standing, blocks) => FoundReply {
-            refusal: 0,
-            held: 1,
-            rank: standing.rank,
-            count: standing.count,
-            leader: standing.leader,
-            blocks: blocks as u64,
-        },
-        LookedUp::Absent(blocks) => FoundReply {
-            refusal: 0,
-            held: 0,
-            rank: 0,
-            count: 0,
-            leader: 0,
-            blocks: blocks as u64,
-        },
-        LookedUp::Refused(reason) => FoundReply {
-            refusal: call_replies::number(reason),
-            held: 0,
-            rank: 0,
-            count: 0,
-            leader: 0,
-            blocks: 0,
-        },
+        LookedUp::Held(standing, blocks) => found_given(standing, blocks),
+        LookedUp::Absent(blocks) => none_found(0, blocks),
+        LookedUp::Refused(reason) => none_found(call_replies::number(reason), 0),
     }
 }
 

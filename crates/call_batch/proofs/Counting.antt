@@ -14,7 +14,7 @@ use Rattle.lists.proofs.Keep.{all-map, all-always, keep-same, length-keep}
 use Rattle.priority.specs.Priority.{priorityOf}
 use Rattle.treap.specs.Blocks.{Block, blocks, meets, blocksMetByAll}
 use Rattle.table.specs.Layout.{mostSlots, leastOrder, greatestOrder}
-use Rattle.table.specs.Contents.{Contents, tableOrder}
+use Rattle.table.specs.Contents.{Contents, tableOrder, keysIn}
 use Rattle.table.proofs.Soundness.{shown-fit, shown-nonzero, sound-order, sound-rises}
 use Rattle.table_limits.specs.Lengths.{slotsFor}
 use Rattle.table_limits.proofs.Lengths.{slots-for-some}
@@ -36,23 +36,23 @@ module _ (words : List ℕ) (sound : isSound words ≡ true) where
   unfolding shown tableOrder
   wide = omega (arith, lies-says leastOrder greatestOrder (c .order) (sound-order (slotsFor (length words)) words (passed-with words sound)) .0)
 
-  rising : Rising (c .keys)
+  rising : Rising (keysIn c)
   unfolding shown
   rising = sound-rises (slotsFor (length words)) words (passed-with words sound)
 
-  positive : All (λ k. 1 ≤ k) (c .keys)
+  positive : All (λ k. 1 ≤ k) (keysIn c)
   unfolding shown
   positive = shown-nonzero (slotsFor (length words)) words
 
   abbrev all-blocks : List Block
-  all-blocks = blocks (c .order) priorityOf (c .keys)
+  all-blocks = blocks (c .order) priorityOf (keysIn c)
 
-  pub blocks-most : length (blocks (shown words .order) priorityOf (shown words .keys)) ≤ mostSlots
+  pub blocks-most : length (blocks (shown words .order) priorityOf (keysIn (shown words))) ≤ mostSlots
   unfolding shown
   blocks-most =
       omega (
         arith,
-        blocks-few (c .order) priorityOf wide (c .keys) rising,
+        blocks-few (c .order) priorityOf wide (keysIn c) rising,
         shown-fit (slotsFor (length words)) words,
         slots-for-some (length words) (some-slots words sound) .within,
       )
@@ -61,7 +61,7 @@ module _ (words : List ℕ) (sound : isSound words ≡ true) where
   record Reached (asked : List ℕ) (so : Progress) : Type 0 where
     last-is : so .key ≡ lastOf asked
     before-is : so .before ≡ beforeOf asked
-    met : so .blocks ≡ blocksMetByAll (c .order) priorityOf (c .keys) asked
+    met : so .blocks ≡ blocksMetByAll (c .order) priorityOf (keysIn c) asked
     falls : Falling asked
     low : All (λ k. 1 ≤ k) asked
 
@@ -77,9 +77,9 @@ module _ (words : List ℕ) (sound : isSound words ≡ true) where
   one-under (x ∷ []) falls = omega arith
   one-under (x ∷ y ∷ zs) falls = omega (arith, falls .0 .0)
 
-  met-few : (asked : List ℕ) → blocksMetByAll (c .order) priorityOf (c .keys) asked ≤ mostSlots
+  met-few : (asked : List ℕ) → blocksMetByAll (c .order) priorityOf (keysIn c) asked ≤ mostSlots
   unfolding blocksMetByAll
-  met-few asked = omega (arith, length-keep (λ b. some (λ k. meets (c .order) priorityOf (c .keys) k b) asked) all-blocks, blocks-most)
+  met-few asked = omega (arith, length-keep (λ b. some (λ k. meets (c .order) priorityOf (keysIn c) k b) asked) all-blocks, blocks-most)
 
   module _ (asked : List ℕ) (so : Progress) (here : Reached asked so) (key : ℕ) (above : so .key < key) where
     on-top : Falling (key ∷ asked)
@@ -108,7 +108,7 @@ module _ (words : List ℕ) (sound : isSound words ≡ true) where
 
   -- ---- all lines
   abbrev met-by : List ℕ → Block → Bool
-  met-by keys b = some (λ k. meets (c .order) priorityOf (c .keys) k b) keys
+  met-by keys b = some (λ k. meets (c .order) priorityOf (keysIn c) k b) keys
 
   lines : (keys asked : List ℕ) (so : Progress) → Reached asked so → rises (so .key) keys ≡ true
       → Askable words so keys × (progress words so keys .blocks ≡ length (keep (λ b. met-by keys b || met-by asked b) all-blocks))
@@ -121,7 +121,7 @@ module _ (words : List ℕ) (sound : isSound words ≡ true) where
         count
             ∙ ap length
             (keep-same (λ b. met-by keys b || met-by (key ∷ asked) b) (λ b. met-by (key ∷ keys) b || met-by asked b) all-blocks
-            (all-always (λ b. (met-by keys b || met-by (key ∷ asked) b) ≡ (met-by (key ∷ keys) b || met-by asked b)) (λ b. turned (met-by keys b) (meets (c .order) priorityOf (c .keys) key b) (met-by asked b)) all-blocks)),
+            (all-always (λ b. (met-by keys b || met-by (key ∷ asked) b) ≡ (met-by (key ∷ keys) b || met-by asked b)) (λ b. turned (met-by keys b) (meets (c .order) priorityOf (keysIn c) key b) (met-by asked b)) all-blocks)),
       )
     where
       turned : (k m a : Bool) → (k || (m || a)) ≡ ((m || k) || a)
@@ -130,7 +130,7 @@ module _ (words : List ℕ) (sound : isSound words ≡ true) where
   pub can-ask : (keys : List ℕ) → rises 0 keys ≡ true → Askable words nothingAsked keys
   can-ask keys up = lines keys [] nothingAsked reached-none up .0
 
-  pub blocks-are : (keys : List ℕ) → rises 0 keys ≡ true → progress words nothingAsked keys .blocks ≡ blocksMetByAll (shown words .order) priorityOf (shown words .keys) keys
+  pub blocks-are : (keys : List ℕ) → rises 0 keys ≡ true → progress words nothingAsked keys .blocks ≡ blocksMetByAll (shown words .order) priorityOf (keysIn (shown words)) keys
   unfolding blocksMetByAll
   blocks-are keys up =
       lines keys [] nothingAsked reached-none up .1

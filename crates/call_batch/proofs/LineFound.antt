@@ -19,6 +19,7 @@ use Rattle.table_judge.specs.Judge.{isSound}
 use Rattle.table_judge.proofs.Decides.{some-slots}
 use Rattle.table_descend.specs.Lookup.{standingOf, earlier, newlyMet, lookedUpAfter}
 use Rattle.table_descend.specs.declared.Looked.{Looked}
+use Rattle.table.specs.Contents.{keysIn}
 use Rattle.table_descend.specs.declared.Looked.the-variants.{Held, Absent}
 use Rattle.call_meaning.specs.Reasons.{wrongLength, zeroKey, notSound, shown}
 use Rattle.call_meaning.specs.Calls.{rankIn, standingIn, lookupRefusal, lookupReply}
@@ -43,13 +44,13 @@ module _ (words : List ℕ) (sound : isSound words ≡ true) (key : ℕ) (positi
   unfolding lookupRefusal wrongLength zeroKey notSound
   accepted = rw (ne-eqb (slotsFor (length words)) 0 (some-slots words sound), ne-eqb key 0 (λ e. omega arith), sound) refl
 
-  held-is : heldBy words key ≡ cond (member key (shown words .keys)) 1 0
+  held-is : heldBy words key ≡ cond (member key (keysIn (shown words))) 1 0
   unfolding heldBy lookupReply standingIn
-  held-is = rw accepted (by-test (member key (shown words .keys)) (λ e. rw e refl) (λ e. rw e refl))
+  held-is = rw accepted (by-test (member key (keysIn (shown words))) (λ e. rw e refl) (λ e. rw e refl))
 
-  rank-is : rankBy words key ≡ cond (member key (shown words .keys)) (rankIn (shown words) key) 0
+  rank-is : rankBy words key ≡ cond (member key (keysIn (shown words))) (rankIn (shown words) key) 0
   unfolding rankBy lookupReply standingIn
-  rank-is = rw accepted (by-test (member key (shown words .keys)) (λ e. rw e refl) (λ e. rw e refl))
+  rank-is = rw accepted (by-test (member key (keysIn (shown words))) (λ e. rw e refl) (λ e. rw e refl))
 
   module _ (so : Progress) (many : ℕ) (here : many ≡ slotsFor (length words)) (found : Looked) (told : found ≡ lookedUpAfter (contentsOf many words) (earlier (so .key) (so .before)) key) where
     in-shown : found ≡ lookedUpAfter (shown words) (earlier (so .key) (so .before)) key
@@ -60,14 +61,14 @@ module _ (words : List ℕ) (sound : isSound words ≡ true) (key : ℕ) (positi
     unfolding lineAfter lookedUpAfter standingOf rankIn
     line-found =
         ap (lineFrom so key) in-shown
-        ∙ by-test (member key (shown words .keys)) (λ e. rw (held-is, rank-is, e) refl) (λ e. rw (held-is, rank-is, e) refl)
+        ∙ by-test (member key (keysIn (shown words))) (λ e. rw (held-is, rank-is, e) refl) (λ e. rw (held-is, rank-is, e) refl)
 
     pub few-found : newIn found ≤ mostSlots
     unfolding lookedUpAfter newlyMet
     few-found =
         let c = shown words in
-        let all : newIn found ≡ newlyMet c (earlier (so .key) (so .before)) key = ap newIn in-shown ∙ either (member key (c .keys)) in
-        let few : newlyMet c (earlier (so .key) (so .before)) key ≤ length (blocks (c .order) priorityOf (c .keys)) = length-keep _ (blocks (c .order) priorityOf (c .keys)) in
+        let all : newIn found ≡ newlyMet c (earlier (so .key) (so .before)) key = ap newIn in-shown ∙ either (member key (keysIn c)) in
+        let few : newlyMet c (earlier (so .key) (so .before)) key ≤ length (blocks (c .order) priorityOf (keysIn c)) = length-keep _ (blocks (c .order) priorityOf (keysIn c)) in
         omega (arith, blocks-most words sound)
       where
         either : (b : Bool) → newIn (cond b (Held (standingOf (shown words) key) (newlyMet (shown words) (earlier (so .key) (so .before)) key)) (Absent (newlyMet (shown words) (earlier (so .key) (so .before)) key)))

@@ -6,7 +6,7 @@ use lib.Dec.{eqb}
 use lib.ListN.{length, getD}
 use Rattle.lists.specs.Lists.{member}
 use Rattle.lists.proofs.Tests.{by-test}
-use Rattle.table.specs.Contents.{risingKeys}
+use Rattle.table.specs.Contents.{risingKeys, keysIn}
 use Rattle.table_limits.specs.Lengths.{slotsFor}
 use Rattle.table_judge.specs.Judge.{isSound}
 use Rattle.table_descend.proofs.InRow.{none-met, alone-met}
@@ -34,7 +34,7 @@ one-line words q =
     (λ z. rw (e, z) refl)
     (λ z.
     by-test (isSound words)
-    (λ s. by-test (member (q .key) (shown words .keys)) (λ m. rw (e, z, s, m) refl) (λ m. rw (e, z, s, m) refl))
+    (λ s. by-test (member (q .key) (keysIn (shown words))) (λ m. rw (e, z, s, m) refl) (λ m. rw (e, z, s, m) refl))
     (λ s. rw (e, z, s) refl)))
 
 pub small-batches : SmallBatches

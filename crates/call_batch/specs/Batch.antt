@@ -2,6 +2,7 @@
 use mathlib.Core.List.{List, [], _∷_, map}
 use Prim.Native.Nat.{ℕ}
 use lib.ListN.{getD}
+use Rattle.table.specs.Contents.{keysIn}
 use Rattle.priority.specs.Priority.{priorityOf}
 use Rattle.treap.specs.Blocks.{blocksMetByAll}
 use Rattle.call_replies.specs.Replies.{Reply, lowest, unlessRefused}
@@ -34,7 +35,7 @@ batchReply words questions =
       refusal = batchRefusal words questions;
       numbers =
           unlessRefused (batchRefusal words questions)
-          (blocksMetByAll (shown words .order) priorityOf (shown words .keys) (keysOf questions) ∷ [])
+          (blocksMetByAll (shown words .order) priorityOf (keysIn (shown words)) (keysOf questions) ∷ [])
           (0 ∷ []);
     }
 

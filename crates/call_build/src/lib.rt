@@ -1,8 +1,14 @@
-// Making a table of any words: the blank one of an order, or that of an order and a list of keys.
+// Making a table of any words: the blank one of an order, or that of an order and a list of keys with their measures.
 ghost use mathlib.Core.Path.{_≡_};
+ghost use mathlib.Core.Bool.{true, _&&_};
 ghost use Prim.Native.Nat.{_<_, _≤_};
+ghost use lib.Dec.{eqb};
 ghost use lib.ListN.{length, replicate};
+ghost use Rattle.lists.specs.Lists.{every};
+ghost use Rattle.measure.specs.Measure.{isMeasure, measuresBeside};
+ghost use Rattle.priority.specs.Priority.{HoldsConstants};
 ghost use Rattle.table.specs.Layout.{mostSlots, tableWords};
+ghost use Rattle.table.specs.Contents.{entriesWith};
 ghost use Rattle.table.specs.Table.{fresh};
 ghost use Rattle.table_prepare.specs.Prepared.{Keys};
 ghost use Rattle.call_replies.specs.Replies.{setUpOf, builtOf};
@@ -10,6 +16,7 @@ ghost use Rattle.call_meaning.specs.Calls.{setUpReply, setUpAfter, buildReply, 
 use call_replies::Built;
 use call_replies::Refusal;
 use call_replies::SetUp;
+use priority::CONSTANT_COUNT;
 use table::ORDER_WORD;
 
 // Make every word zero.
@@ -37,20 +44,79 @@ pub fn set_up(table: &mut [u64], order: u64) -> SetUp
     SetUp::Done
 }
 
-// Write the table of an order and keys, with the constants of the priorities made for it.
-fn write(order: u64, keys: &[u64], many: usize, table: &mut [u64])
-    requires { ⌜ Keys order (now keys) ⌝ }
-    requires { ⌜ (0 < many) × (length (now keys) ≤ many) × (length (now table) ≡ tableWords many) × (many ≤ mostSlots) ⌝ }
-    ensures { λ _. ⌜ now (table .exit) ≡ fresh many (record { order = order; keys = now (keys .entry) }) ⌝ }
+// Whether lengths and corrections are one of each for each of `n` keys, and all of them measures within the rules.
+fn are_measured(n: usize, lengths: &[u64], corrections: &[i32]) -> bool
+    ensures { λ r. ⌜ r ≡ (eqb (length (now (lengths .entry))) n && (eqb (length (now (corrections .entry))) n && every isMeasure (measuresBeside (now (lengths .entry)) (now (corrections .entry))))) ⌝ }
 {
-    let constants = priority::constant_table();
-    table_write::write(order, keys, many, table, &constants);
+    if lengths.len() != n {
+        return false;
+    }
+    if corrections.len() != n {
+        return false;
+    }
+    measure::are_measures(lengths, corrections)
 }
 
-// Make of any words of a right length the table of an order and a strictly rising list of keys. Refusals: 1, 2, 5, 10.
-pub fn build(table: &mut [u64], order: u64, list: &[u64]) -> Built
-    ensures { λ r. ⌜ builtOf r ≡ buildReply (now (table .entry)) order (now (list .entry)) ⌝ }
-    ensures { λ _. ⌜ now (table .exit) ≡ buildAfter (now (table .entry)) order (now (list .entry)) ⌝ }
+// Write the table of an order and keys with the measures beside them, with `tags` to work in.
+fn write_within(
+    order: u64,
+    keys: &[u64],
+    lengths: &[u64],
+    corrections: &[i32],
+    many: usize,
+    tags: &mut [u64],
+    table: &mut [u64],
+    constants: &[u64; CONSTANT_COUNT],
+)
+    requires { ⌜ Keys order (now keys) ⌝ }
+    requires { ⌜ (length (now lengths) ≡ length (now keys)) × (length (now corrections) ≡ length (now lengths)) × (every isMeasure (measuresBeside (now lengths) (now corrections)) ≡ true) ⌝ }
+    requires { ⌜ (0 < many) × (length (now keys) ≤ many) × (length (now table) ≡ tableWords many) × (many ≤ mostSlots) × (many ≤ length (now tags)) × HoldsConstants (now constants) ⌝ }
+    ensures { λ _. ⌜ now (table .exit) ≡ fresh many (record { order = order; entries = entriesWith (now (keys .entry)) (measuresBeside (now (lengths .entry)) (now (corrections .entry))) }) ⌝ }
+{
+    measure::put_tags(lengths, corrections, tags);
+    let n = keys.len();
+    table_write::write(order, keys, &tags[..n], many, table, constants);
+}
+
+// Write the table of an order and keys with the measures beside them, with room for the tags, and the constants of the priorities made for it.
+fn write(
+    order: u64,
+    keys: &[u64],
+    lengths: &[u64],
+    corrections: &[i32],
+    many: usize,
+    table: &mut [u64],
+)
+    requires { ⌜ Keys order (now keys) ⌝ }
+    requires { ⌜ (length (now lengths) ≡ length (now keys)) × (length (now corrections) ≡ length (now lengths)) × (every isMeasure (measuresBeside (now lengths) (now corrections)) ≡ true) ⌝ }
+    requires { ⌜ (0 < many) × (length (now keys) ≤ many) × (length (now table) ≡ tableWords many) × (many ≤ mostSlots) ⌝ }
+    ensures { λ _. ⌜ now (table .exit) ≡ fresh many (record { order = order; entries = entriesWith (now (keys .entry)) (measuresBeside (now (lengths .entry)) (now (corrections .entry))) }) ⌝ }
+{
+    let constants = priority::constant_table();
+    let mut tags = [0u64; 4096];
+    write_within(
+        order,
+        keys,
+        lengths,
+        corrections,
+        many,
+        &mut tags,
+        table,
+        &constants,
+    );
+}
+
+// Make of any words of a right length the table of an order and a strictly rising list of keys with their measures: the lengths and the
+// corrections, one of each beside each key. Refusals: 1, 2, 5, 12, 10.
+pub fn build(
+    table: &mut [u64],
+    order: u64,
+    list: &[u64],
+    lengths: &[u64],
+    corrections: &[i32],
+) -> Built
+    ensures { λ r. ⌜ builtOf r ≡ buildReply (now (table .entry)) order (now (list .entry)) (now (lengths .entry)) (now (corrections .entry)) ⌝ }
+    ensures { λ _. ⌜ now (table .exit) ≡ buildAfter (now (table .entry)) order (now (list .entry)) (now (lengths .entry)) (now (corrections .entry)) ⌝ }
 {
     let many = table_limits::slots_for(table.len());
     if many == 0 {
@@ -62,9 +128,12 @@ pub fn build(table: &mut [u64], order: u64, list: &[u64]) -> Built
     if !table_decode::is_rising(list) {
         return Built::Refused(Refusal::NotRising);
     }
+    if !are_measured(list.len(), lengths, corrections) {
+        return Built::Refused(Refusal::WrongMeasure);
+    }
     if many < list.len() {
         return Built::Refused(Refusal::TooManyKeys);
     }
-    write(order, list, many, table);
+    write(order, list, lengths, corrections, many, table);
     Built::Done
 }

@@ -2,4 +2,5 @@
 pub mod Sets
 pub mod Written
 pub mod Knowing
+pub mod Editing
 pub mod Loading

@@ -7,14 +7,16 @@ use Prim.Native.Nat.{ℕ, zero, suc, _/_, _^_}
 use native.Mathlib.Nat.{mod-lt}
 use native.Mathlib.Omega.{arith}
 use lib.Dec.{eqb}
-use lib.ListN.{length}
+use lib.ListN.{length, length-map}
 use borrow.Author.Tests.{eqb-false}
 use Rattle.lists.specs.Lists.{All, member}
 use Rattle.lists.proofs.Tests.{by-test, or-false-left, or-false-right}
-use Rattle.table.specs.Contents.{Contents, IsKey, Valid, newOrder}
-use Rattle.call_sets.specs.Load.{Operation, inserting, deleting, lookingUp, keyFrom, highestBits, chosen, operations, done, doneAll, loaded}
+use Rattle.measure.proofs.Stored.{unmeasured-right}
+use Rattle.table.specs.Contents.{Entry, Contents, entryKeys, keysIn, IsKey, Valid, newOrder}
+use Rattle.call_sets.specs.Load.{Operation, inserting, deleting, lookingUp, keyFrom, highestBits, chosen, operations, plain, done, doneAll, loaded}
+use Rattle.call_sets.proofs.Members.{joined-right, left-right}
 use Rattle.call_changes.specs.Done.{IsLoadKey, withDone}
-use Rattle.call_changes.proofs.Sets.{joined-all, joined-valid, without-all, without-valid}
+use Rattle.call_changes.proofs.Sets.{joined-valid, without-valid}
 
 -- ---- the keys of operations
 -- The key that an operation is about.
@@ -48,26 +50,26 @@ operations-keys s (suc count) = (is-key _ (chosen-key _), operations-keys _ coun
 -- ---- sets
 -- The order and the set of a table, with what operations make of the set.
 abbrev pub withAllDone : ℕ → List Operation → Contents → Contents
-withAllDone many ops c = record { order = c .order; keys = doneAll many ops (c .keys) }
+withAllDone many ops c = record { order = c .order; entries = doneAll many ops (c .entries) }
 
-pub done-all : (P : ℕ → Type 0) (many : ℕ) (operation : Operation) (set : List ℕ) → P (keyOf operation) → All P set → All P (done many operation set)
+pub done-all : (P : Entry → Type 0) (many : ℕ) (operation : Operation) (set : List Entry) → P (plain (keyOf operation)) → All P set → All P (done many operation set)
 unfolding done
 done-all P many (inserting key) set right all =
-    by-test (member key set || eqb (length set) many) (λ e. rw e all) (λ e. rw e (joined-all key P set right all))
-done-all P many (deleting key) set right all = by-test (member key set) (λ e. rw e (without-all key P set all)) (λ e. rw e all)
+    by-test (member key (entryKeys set) || eqb (length set) many) (λ e. rw e all) (λ e. rw e (joined-right P (plain key) set right all))
+done-all P many (deleting key) set right all = by-test (member key (entryKeys set)) (λ e. rw e (left-right P key set all)) (λ e. rw e all)
 done-all P many (lookingUp key) set right all = all
 
 module _ (many : ℕ) where
   pub done-valid : (operation : Operation) (c : Contents) → IsKey (keyOf operation) → Valid many c → Valid many (withDone many operation c)
   unfolding done
   done-valid (inserting key) c right valid =
-      by-test (member key (c .keys) || eqb (length (c .keys)) many)
+      by-test (member key (keysIn c) || eqb (length (c .entries)) many)
       (λ e. rw e valid)
       (λ e.
-      let apart : length (c .keys) ≢ many = eqb-false (length (c .keys)) many (or-false-right (member key (c .keys)) _ e) in
+      let apart : length (c .entries) ≢ many = eqb-false (length (c .entries)) many (or-false-right (member key (keysIn c)) _ e) in
       rw e
-      (joined-valid key many c valid right (or-false-left (member key (c .keys)) _ e) (omega (arith, valid .keys-fit))))
-  done-valid (deleting key) c right valid = by-test (member key (c .keys)) (λ e. rw e (without-valid key many c valid)) (λ e. rw e valid)
+      (joined-valid (plain key) many c valid right unmeasured-right (or-false-left (member key (keysIn c)) _ e) (omega (arith, valid .keys-fit, length-map (c .entries) (λ e. e .key)))))
+  done-valid (deleting key) c right valid = by-test (member key (keysIn c)) (λ e. rw e (without-valid key many c valid)) (λ e. rw e valid)
   done-valid (lookingUp key) c right valid = valid
 
   pub all-done-valid : (ops : List Operation) (c : Contents) → AboutKeys ops → Valid many c → Valid many (withAllDone many ops c)
@@ -75,11 +77,11 @@ module _ (many : ℕ) where
   all-done-valid (operation ∷ ops) c right valid =
       all-done-valid ops (withDone many operation c) (right .1) (done-valid operation c (right .0) valid)
 
-  pub blank-valid : (order : ℕ) → newOrder order ≡ true → Valid many (record { order = order; keys = [] })
+  pub blank-valid : (order : ℕ) → newOrder order ≡ true → Valid many (record { order = order; entries = [] })
   unfolding newOrder
-  blank-valid order right = record { order-right = right; keys-right = tt; keys-rise = tt; keys-fit = omega arith }
+  blank-valid order right = record { order-right = right; keys-right = tt; keys-rise = tt; keys-fit = omega arith; measures-right = tt }
 
-  pub loaded-valid : (order seed count : ℕ) → newOrder order ≡ true → Valid many (record { order = order; keys = loaded many seed count })
+  pub loaded-valid : (order seed count : ℕ) → newOrder order ≡ true → Valid many (record { order = order; entries = loaded many seed count })
   unfolding loaded
   loaded-valid order seed count right =
-      all-done-valid (operations seed count) (record { order = order; keys = [] }) (operations-keys seed count) (blank-valid order right)
+      all-done-valid (operations seed count) (record { order = order; entries = [] }) (operations-keys seed count) (blank-valid order right)

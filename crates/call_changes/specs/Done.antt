@@ -9,4 +9,4 @@ IsLoadKey key = (1 ≤ key) × (key ≤ 512)
 
 -- The order and the set of a table, with what the operation makes of the set.
 abbrev pub withDone : ℕ → Operation → Contents → Contents
-withDone many operation c = record { order = c .order; keys = done many operation (c .keys) }
+withDone many operation c = record { order = c .order; entries = done many operation (c .entries) }

@@ -12,20 +12,21 @@ use call_replies::Refusal;
 use priority::CONSTANT_COUNT;
 use table::SIZE_WORD;
 
-// Delete a key from a sound table of `many` slots, its keys at the start of `keys`, as they then are again. Internal to this library's
-// crates: they have judged the table, or written it, and they lend the constants of the priorities.
+// Delete a key from a sound table of `many` slots, its keys at the start of `keys` and the tags of their measures at the start of `tags`, as they
+// then are again. Internal to this library's crates: they have judged the table, or written it, and they lend the constants of the priorities.
 pub fn delete_known(
     table: &mut [u64],
     many: usize,
     key: u64,
     keys: &mut [u64],
+    tags: &mut [u64],
     constants: &[u64; CONSTANT_COUNT],
 ) -> Deleted
-    requires { ⌜ Known many (now table) (now keys) ⌝ }
+    requires { ⌜ Known many (now table) (now keys) (now tags) ⌝ }
     requires { ⌜ (1 ≤ key) × HoldsConstants (now constants) ⌝ }
     ensures { λ r. ⌜ deletedOf r ≡ deleteReply (now (table .entry)) key ⌝ }
     ensures { λ _. ⌜ now (table .exit) ≡ deleteAfter (now (table .entry)) key ⌝ }
-    ensures { λ _. ⌜ Known many (now (table .exit)) (now (keys .exit)) ⌝ }
+    ensures { λ _. ⌜ Known many (now (table .exit)) (now (keys .exit)) (now (tags .exit)) ⌝ }
 {
     let priority = priority::priority_from(constants, key);
     if !table_entries::holds(table, many, key, priority) {
@@ -33,30 +34,32 @@ pub fn delete_known(
     }
     let n = table[SIZE_WORD] as usize;
     let rank = table_entries::rank_of(table, many, key, priority);
-    let left = call_sets::take_out(keys, n, key);
-    call_changes::rewrite(table, many, keys, left, constants);
+    call_sets::take_out(keys, tags, n, key);
+    call_changes::rewrite(table, many, keys, tags, n - 1, constants);
     Deleted::Rank(rank)
 }
 
-// Delete a key from a table of `many` slots, with `keys` to work in.
+// Delete a key from a table of `many` slots, with `keys` and `tags` to work in.
 fn delete_in(
     table: &mut [u64],
     many: usize,
     key: u64,
     keys: &mut [u64],
+    tags: &mut [u64],
     constants: &[u64; CONSTANT_COUNT],
 ) -> Deleted
-    requires { ⌜ (0 < many) × (many ≤ mostSlots) × (length (now table) ≡ tableWords many) × (1 ≤ key) × (many ≤ length (now keys)) × HoldsConstants (now constants) ⌝ }
+    requires { ⌜ (0 < many) × (many ≤ mostSlots) × (length (now table) ≡ tableWords many) × (1 ≤ key) × (many ≤ length (now keys)) × (many ≤ length (now tags)) × HoldsConstants (now constants) ⌝ }
     ensures { λ r. ⌜ deletedOf r ≡ deleteReply (now (table .entry)) key ⌝ }
     ensures { λ _. ⌜ now (table .exit) ≡ deleteAfter (now (table .entry)) key ⌝ }
 {
-    if !call_changes::know(table, many, keys, constants) {
+    if !call_changes::know(table, many, keys, tags, constants) {
         return Deleted::Refused(Refusal::NotSound);
     }
-    delete_known(table, many, key, keys, constants)
+    delete_known(table, many, key, keys, tags, constants)
 }
 
-// Delete a key from a table of `many` slots, the key not zero, with room for the table's keys, and the constants of the priorities made for it.
+// Delete a key from a table of `many` slots, the key not zero, with room for the table's keys and tags, and the constants of the
+// priorities made for it.
 fn delete_with_room(table: &mut [u64], many: usize, key: u64) -> Deleted
     requires { ⌜ (0 < many) × (many ≤ mostSlots) × (length (now table) ≡ tableWords many) × (1 ≤ key) ⌝ }
     ensures { λ r. ⌜ deletedOf r ≡ deleteReply (now (table .entry)) key ⌝ }
@@ -64,7 +67,8 @@ fn delete_with_room(table: &mut [u64], many: usize, key: u64) -> Deleted
 {
     let constants = priority::constant_table();
     let mut keys = [0u64; 4096];
-    delete_in(table, many, key, &mut keys, &constants)
+    let mut tags = [0u64; 4096];
+    delete_in(table, many, key, &mut keys, &mut tags, &constants)
 }
 
 // Delete a key; the rank that it had. Refusals: 1, 3, 7, 9.

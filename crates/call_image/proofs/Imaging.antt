@@ -1,19 +1,20 @@
 -- What the tests of a writing say of its reply and of the output after it. Assumes nothing.
 use mathlib.Core.Bool.{true, false, cond}
-use mathlib.Core.List.{List, [], _∷_}
-use mathlib.Core.Path.{_≡_, sym, ap, _∙_}
+use mathlib.Core.List.{List}
+use mathlib.Core.Path.{_≡_, sym, ap, ap₂, _∙_}
 use Prim.Native.Nat.{ℕ, _<_, _≤_}
 use native.Mathlib.Omega.{arith}
-use lib.Dec.{eqb, leb, ltb}
+use lib.Dec.{eqb}
 use lib.ListN.{length, getD}
 use borrow.Author.Tests.{le-leb, lt-leb, lt-ltb, le-ltb}
 use Rattle.lists.specs.Lists.{overwrite}
-use Rattle.priority.specs.Priority.{priorityOf}
-use Rattle.treap.specs.Image.{image}
-use Rattle.table.specs.Contents.{Contents}
+use Rattle.table.specs.Contents.{Entry, keysIn}
+use Rattle.table.specs.Tags.{tagsIn, entriesTagged, tagged}
 use Rattle.table.specs.Layout.{mostSlots, tableWords, orderWord}
 use Rattle.table.specs.Table.{contentsOf}
 use Rattle.table.specs.Sound.{soundWith}
+use Rattle.table.proofs.Tagged.{tagged-back}
+use Rattle.table.proofs.Soundness.{sound-measures}
 use Rattle.table_limits.specs.Lengths.{slotsFor}
 use Rattle.image.specs.Image.{imageOf}
 use Rattle.image_parts.specs.Written.{writtenTo}
@@ -44,19 +45,20 @@ module _ (words output : List ℕ) where
         let unsound = judged words many some most long false e in
         (rw (slots-right, unsound), rw (slots-right, unsound))
 
-    -- the image, as it is written from the order word and the keys
-    module _ (sound : soundWith many words ≡ true) (keys : List ℕ) (found : keys ≡ contentsOf many words .keys) where
+    -- the image, as it is written from the order word, the keys and their tags
+    module _ (sound : soundWith many words ≡ true) (keys tags : List ℕ) (found : keys ≡ keysIn (contentsOf many words)) (beside : tags ≡ tagsIn (contentsOf many words)) where
       drawn : List ℕ
-      drawn = image (getD words orderWord 0) priorityOf keys
+      drawn = imageOf (tagged (getD words orderWord 0) keys tags)
 
       image-shown : imageOf (shown words) ≡ drawn
-      unfolding imageOf drawn contentsOf
+      unfolding drawn contentsOf
       image-shown =
-          ap (λ (c : Contents). image (c .order) priorityOf (c .keys)) (shown-is words many some most long)
-          ∙ ap (image (getD words orderWord 0) priorityOf) (sym found)
+          ap imageOf (shown-is words many some most long)
+          ∙ ap (λ (es : List Entry). imageOf (record { order = getD words orderWord 0; entries = es }))
+          (sym (ap₂ entriesTagged found beside ∙ tagged-back (contentsOf many words .entries) (sound-measures many words sound)))
 
-      pub refused-short : (n : ℕ) → n ≡ length (image (getD words orderWord 0) priorityOf keys) → length output < n
-          → (after : List ℕ) → after ≡ writtenTo output (image (getD words orderWord 0) priorityOf keys) → Meets (Refused OutputTooShort) after
+      pub refused-short : (n : ℕ) → n ≡ length (imageOf (tagged (getD words orderWord 0) keys tags)) → length output < n
+          → (after : List ℕ) → after ≡ writtenTo output (imageOf (tagged (getD words orderWord 0) keys tags)) → Meets (Refused OutputTooShort) after
       unfolding writeReply writeOutput writeRefusal wrongLength notSound outputTooShort writtenTo drawn
       refused-short n e h after q =
           let right = judged words many some most long true sound in
@@ -64,8 +66,8 @@ module _ (words output : List ℕ) where
           let as-it-was : after ≡ output = q ∙ ap (λ b. cond b (overwrite output 0 drawn) output) (lt-leb (length drawn) (length output) (omega arith)) in
           (rw (image-shown, slots-right, right, short), rw (image-shown, slots-right, right, short) as-it-was)
 
-      pub accepted : (n : ℕ) → n ≡ length (image (getD words orderWord 0) priorityOf keys) → n ≤ length output
-          → (after : List ℕ) → after ≡ writtenTo output (image (getD words orderWord 0) priorityOf keys) → Meets (Bytes n) after
+      pub accepted : (n : ℕ) → n ≡ length (imageOf (tagged (getD words orderWord 0) keys tags)) → n ≤ length output
+          → (after : List ℕ) → after ≡ writtenTo output (imageOf (tagged (getD words orderWord 0) keys tags)) → Meets (Bytes n) after
       unfolding writeReply writeOutput writeRefusal wrongLength notSound outputTooShort writtenTo drawn
       accepted n e h after q =
           let right = judged words many some most long true sound in

@@ -1,19 +1,17 @@
 -- What the tests of a reading say of its reply and of the table after it. Assumes nothing.
 use mathlib.Core.Bool.{true, false}
-use mathlib.Core.List.{List, [], _∷_}
-use mathlib.Core.Path.{_≡_, refl, sym, ap, ap₂, _∙_}
+use mathlib.Core.List.{List}
+use mathlib.Core.Path.{_≡_, ap, _∙_}
 use Prim.Native.Nat.{ℕ, _<_, _≤_}
 use native.Mathlib.Omega.{arith}
-use lib.Dec.{eqb, ltb}
+use lib.Dec.{eqb}
 use lib.ListN.{length}
 use borrow.Author.Tests.{lt-ltb, le-ltb}
-use Rattle.treap.specs.Image.{orderBytes}
-use Rattle.table.specs.Contents.{Contents}
+use Rattle.table.specs.Contents.{Contents, keysIn}
 use Rattle.table.specs.Layout.{mostSlots, tableWords}
 use Rattle.table.specs.Table.{fresh}
 use Rattle.table_limits.specs.Lengths.{slotsFor}
-use Rattle.image.specs.Layout.{orderAt}
-use Rattle.image.specs.Image.{fieldAt, readImage, isImage}
+use Rattle.image.specs.Image.{readImage, isImage}
 use Rattle.call_replies.specs.Replies.{readBackOf}
 use Rattle.call_replies.specs.declared.Refusal.the-variants.{WrongLength, NotAnImage, TooManyKeys}
 use Rattle.call_replies.specs.declared.ReadBack.{ReadBack}
@@ -40,17 +38,15 @@ module _ (words bytes : List ℕ) where
     refused-bytes e = (rw (slots-right, e), rw (slots-right, e))
 
     module _ (one : isImage bytes ≡ true) where
-      pub refused-many : many < length (readImage bytes .keys) → Meets (Refused TooManyKeys) words
+      pub refused-many : many < length (keysIn (readImage bytes)) → Meets (Refused TooManyKeys) words
       unfolding readReply readAfter readRefusal wrongLength notAnImage tooManyKeys
       refused-many h =
-          let more = lt-ltb (slotsFor (length words)) (length (readImage bytes .keys)) (omega (arith, slots-here words many some most long)) in
+          let more = lt-ltb (slotsFor (length words)) (length (keysIn (readImage bytes))) (omega (arith, slots-here words many some most long)) in
           (rw (slots-right, one, more), rw (slots-right, one, more))
 
-      pub accepted : length (readImage bytes .keys) ≤ many → (order : ℕ) → order ≡ fieldAt orderAt orderBytes bytes → (keys : List ℕ) → keys ≡ readImage bytes .keys
-          → (after : List ℕ) → after ≡ fresh many (record { order = order; keys = keys }) → Meets Done after
-      unfolding readReply readAfter readRefusal wrongLength notAnImage tooManyKeys rewritten readImage
-      accepted h order e keys f after q =
+      pub accepted : length (keysIn (readImage bytes)) ≤ many → (made : Contents) → made ≡ readImage bytes → (after : List ℕ) → after ≡ fresh many made → Meets Done after
+      unfolding readReply readAfter readRefusal wrongLength notAnImage tooManyKeys rewritten
+      accepted h made e after q =
           let here = slots-here words many some most long in
-          let fit = le-ltb (slotsFor (length words)) (length (readImage bytes .keys)) (omega arith) in
-          let shown : record { order = order; keys = keys } ≡ readImage bytes = λ i. record { order = e i; keys = f i } in
-          (rw (slots-right, one, fit), rw (slots-right, one, fit, here) (q ∙ ap (fresh many) shown))
+          let fit = le-ltb (slotsFor (length words)) (length (keysIn (readImage bytes))) (omega arith) in
+          (rw (slots-right, one, fit), rw (slots-right, one, fit, here) (q ∙ ap (fresh many) e))

@@ -17,31 +17,32 @@ use priority::CONSTANT_COUNT;
 use table::ORDER_WORD;
 use table_examine::Verdict;
 
-// Write the image of a table of `many` slots, with `keys` to work in.
+// Write the image of a table of `many` slots, with `keys` and `tags` to work in.
 fn write_in(
     table: &[u64],
     many: usize,
     keys: &mut [u64],
+    tags: &mut [u64],
     output: &mut [u8],
     constants: &[u64; CONSTANT_COUNT],
 ) -> Written
-    requires { ⌜ (0 < many) × (many ≤ mostSlots) × (length (now table) ≡ tableWords many) × (many ≤ length (now keys)) × HoldsConstants (now constants) ⌝ }
+    requires { ⌜ (0 < many) × (many ≤ mostSlots) × (length (now table) ≡ tableWords many) × (many ≤ length (now keys)) × (many ≤ length (now tags)) × HoldsConstants (now constants) ⌝ }
     ensures { λ r. ⌜ writtenOf r ≡ writeReply (now (table .entry)) (now (output .entry)) ⌝ }
     ensures { λ _. ⌜ now (output .exit) ≡ writeOutput (now (table .entry)) (now (output .entry)) ⌝ }
 {
     let order = table[ORDER_WORD];
-    let found = table_examine::examine(table, many, keys, constants);
+    let found = table_examine::examine(table, many, keys, tags, constants);
     let Verdict::Sound(n) = found else {
         return Written::Refused(Refusal::NotSound);
     };
-    let size = image_write::write(order, &keys[..n], output, constants);
+    let size = image_write::write(order, &keys[..n], &tags[..n], output, constants);
     if output.len() < size {
         return Written::Refused(Refusal::OutputTooShort);
     }
     Written::Bytes(size)
 }
 
-// The image of a table of `many` slots, with room for the table's keys, and the constants of the priorities made for it.
+// The image of a table of `many` slots, with room for the table's keys and tags, and the constants of the priorities made for it.
 fn write_with_room(table: &[u64], many: usize, output: &mut [u8]) -> Written
     requires { ⌜ (0 < many) × (many ≤ mostSlots) × (length (now table) ≡ tableWords many) ⌝ }
     ensures { λ r. ⌜ writtenOf r ≡ writeReply (now (table .entry)) (now (output .entry)) ⌝ }
@@ -49,7 +50,8 @@ fn write_with_room(table: &[u64], many: usize, output: &mut [u8]) -> Written
 {
     let constants = priority::constant_table();
     let mut keys = [0u64; 4096];
-    write_in(table, many, &mut keys, output, &constants)
+    let mut tags = [0u64; 4096];
+    write_in(table, many, &mut keys, &mut tags, output, &constants)
 }
 
 // Write the table's image at the start of `output`; how many bytes it has. Refusals: 1, 7, 11.
@@ -64,19 +66,20 @@ pub fn write(table: &[u64], output: &mut [u8]) -> Written
     write_with_room(table, many, output)
 }
 
-// Make a table of `many` slots of an image, with `keys` to work in.
+// Make a table of `many` slots of an image, with `keys` and `tags` to work in.
 fn read_in(
     table: &mut [u64],
     many: usize,
     image: &[u8],
     keys: &mut [u64],
+    tags: &mut [u64],
     constants: &[u64; CONSTANT_COUNT],
 ) -> ReadBack
-    requires { ⌜ (0 < many) × (many ≤ mostSlots) × (length (now table) ≡ tableWords many) × (length (now keys) ≡ mostSlots) × HoldsConstants (now constants) ⌝ }
+    requires { ⌜ (0 < many) × (many ≤ mostSlots) × (length (now table) ≡ tableWords many) × (length (now keys) ≡ mostSlots) × (length (now tags) ≡ mostSlots) × HoldsConstants (now constants) ⌝ }
     ensures { λ r. ⌜ readBackOf r ≡ readReply (now (table .entry)) (now (image .entry)) ⌝ }
     ensures { λ _. ⌜ now (table .exit) ≡ readAfter (now (table .entry)) (now (image .entry)) ⌝ }
 {
-    let found = image_recognize::recognize(image, keys, constants);
+    let found = image_recognize::recognize(image, keys, tags, constants);
     let Recognized::Image(n) = found else {
         return ReadBack::Refused(Refusal::NotAnImage);
     };
@@ -84,7 +87,7 @@ fn read_in(
         return ReadBack::Refused(Refusal::TooManyKeys);
     }
     let order = image_fields::get(image, ORDER_AT, ORDER_BYTES);
-    table_write::write(order, &keys[..n], many, table, constants);
+    table_write::write(order, &keys[..n], &tags[..n], many, table, constants);
     ReadBack::Done
 }
 
@@ -96,7 +99,8 @@ fn read_with_room(table: &mut [u64], many: usize, image: &[u8]) -> ReadBack
 {
     let constants = priority::constant_table();
     let mut keys = [0u64; 4096];
-    read_in(table, many, image, &mut keys, &constants)
+    let mut tags = [0u64; 4096];
+    read_in(table, many, image, &mut keys, &mut tags, &constants)
 }
 
 // Make of any words of a right length the table whose image the bytes are. Refusals: 1, 6, 10.

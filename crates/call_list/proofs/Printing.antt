@@ -1,15 +1,16 @@
 -- What the program prints, test by test. Assumes nothing.
-use mathlib.Core.Bool.{Bool, true, false, cond, not}
-use mathlib.Core.List.{List, [], _∷_, _++_}
+use mathlib.Core.Bool.{true, cond, not}
+use mathlib.Core.List.{List}
 use mathlib.Core.Logic.{_≢_}
 use mathlib.Core.Path.{_≡_, refl, sym, ap, _∙_, subst}
-use Prim.Native.Nat.{ℕ, _+_, _<_, _≤_}
+use Prim.Native.Nat.{ℕ, _<_, _≤_}
 use native.Mathlib.Omega.{arith}
-use lib.Dec.{eqb, ltb}
-use lib.ListN.{length, length-append}
+use lib.Dec.{ltb}
+use lib.ListN.{length}
 use borrow.Author.Tests.{eq-eqb, ne-eqb, lt-ltb, le-ltb}
 use Rattle.lists.specs.Lists.{overwrite}
 use Rattle.lists.proofs.Tests.{by-test}
+use Rattle.table.specs.Contents.{keysIn}
 use Rattle.table.specs.Layout.{tableWords}
 use Rattle.image.specs.Image.{readImage, isImage}
 use Rattle.text.specs.Ascii.{ascii}
@@ -50,7 +51,7 @@ module _ (bytes : List ℕ) where
   not-refused e =
       by-test (isImage bytes) (λ t. t)
       (λ t.
-      let six : 6 ≡ 0 = sym (ap (λ b. cond (not b) 6 (cond (ltb programSlots (length (readImage bytes .keys))) 10 0)) t) ∙ e in
+      let six : 6 ≡ 0 = sym (ap (λ b. cond (not b) 6 (cond (ltb programSlots (length (keysIn (readImage bytes)))) 10 0)) t) ∙ e in
       absurd (omega arith))
 
 -- the listing, as it is written

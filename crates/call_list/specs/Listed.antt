@@ -4,12 +4,13 @@ use mathlib.Core.List.{List, [], _∷_, _++_}
 use Prim.Native.Nat.{ℕ}
 use lib.Dec.{eqb, ltb}
 use lib.ListN.{length}
+use Rattle.table.specs.Contents.{keysIn}
 use Rattle.lists.specs.Lists.{overwrite}
 use Rattle.image.specs.Image.{readImage}
 use Rattle.text.specs.Ascii.{ascii}
 use Rattle.text.specs.Digits.{decimal}
 use Rattle.text_listing.specs.Listing.{listingOf}
-use Rattle.call_replies.specs.Replies.{Reply, Reason, lowest, unlessRefused}
+use Rattle.call_replies.specs.Replies.{Reply, lowest, unlessRefused}
 use Rattle.call_meaning.specs.Reasons.{notAnImage, outputTooShort}
 
 -- The text of the image that the bytes are.
@@ -36,20 +37,20 @@ listOutput bytes output = unlessRefused (listRefusal bytes output) (overwrite ou
 abbrev pub programSlots : ℕ
 programSlots = 1000
 
--- "More than 44,015 bytes".
+-- "its byte limit becomes 50,015" (02, N4).
 abbrev pub programBytes : ℕ
-programBytes = 44015
+programBytes = 50015
 
 -- Why the image is turned down: 6, or 10 where it has more keys than the program has slots; zero where it is not.
 unfoldable pub programRefusal : List ℕ → ℕ
 programRefusal bytes =
-    lowest (notAnImage bytes ∷ (record { number = 10; applies = ltb programSlots (length (readImage bytes .keys)) }) ∷ [])
+    lowest (notAnImage bytes ∷ (record { number = 10; applies = ltb programSlots (length (keysIn (readImage bytes))) }) ∷ [])
 
 -- "A refusal prints `refused`, a space and its number." "Every line the program prints ends in a line feed."
 unfoldable pub refusedText : ℕ → List ℕ
 refusedText number = ascii "refused " ++ decimal number ++ ascii "\n"
 
--- "More than 44,015 bytes prints `too long`; a refusal prints `refused`, a space and its number"; else the listing.
+-- "More than" so many "bytes prints `too long`; a refusal prints `refused`, a space and its number"; else the listing.
 unfoldable pub programText : List ℕ → List ℕ
 programText bytes =
     cond (ltb programBytes (length bytes)) (ascii "too long\n")

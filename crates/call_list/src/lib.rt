@@ -14,22 +14,23 @@ use image_recognize::Recognized;
 use priority::CONSTANT_COUNT;
 
 // The most bytes that the listing program reads, and room for all that it prints.
-pub const PROGRAM_BYTES: usize = 44015;
+pub const PROGRAM_BYTES: usize = 50015;
 
-pub const PROGRAM_ROOM: usize = 440150;
+pub const PROGRAM_ROOM: usize = 500150;
 
-// Write the listing of an image, with `keys` to work in.
+// Write the listing of an image, with `keys` and `tags` to work in.
 fn list_in(
     image: &[u8],
     keys: &mut [u64],
+    tags: &mut [u64],
     output: &mut [u8],
     constants: &[u64; CONSTANT_COUNT],
 ) -> Listed
-    requires { ⌜ (length (now keys) ≡ mostSlots) × HoldsConstants (now constants) ⌝ }
+    requires { ⌜ (length (now keys) ≡ mostSlots) × (length (now tags) ≡ mostSlots) × HoldsConstants (now constants) ⌝ }
     ensures { λ r. ⌜ listedOf r ≡ listReply (now (image .entry)) (now (output .entry)) ⌝ }
     ensures { λ _. ⌜ now (output .exit) ≡ listOutput (now (image .entry)) (now (output .entry)) ⌝ }
 {
-    let found = image_recognize::recognize(image, keys, constants);
+    let found = image_recognize::recognize(image, keys, tags, constants);
     let Recognized::Image(n) = found else {
         return Listed::Refused(Refusal::NotAnImage);
     };
@@ -46,7 +47,8 @@ pub fn list(image: &[u8], output: &mut [u8]) -> Listed
 {
     let constants = priority::constant_table();
     let mut keys = [0u64; 4096];
-    list_in(image, &mut keys, output, &constants)
+    let mut tags = [0u64; 4096];
+    list_in(image, &mut keys, &mut tags, output, &constants)
 }
 
 // The refusal of an image that is read into a table of 1,000 slots; 0 for none.
@@ -64,13 +66,13 @@ fn refusal_in(table: &mut [u64], image: &[u8]) -> u64
 fn refusal_of(image: &[u8]) -> u64
     ensures { λ r. ⌜ r ≡ programRefusal (now (image .entry)) ⌝ }
 {
-    let mut table = [0u64; 6003];
+    let mut table = [0u64; 8003];
     refusal_in(&mut table, image)
 }
 
 // Write what the program says of a refusal.
 fn put_refused(output: &mut [u8], number: u64) -> usize
-    requires { ⌜ 440150 ≤ length (now output) ⌝ }
+    requires { ⌜ 500150 ≤ length (now output) ⌝ }
     ensures { λ r. ⌜ Written (now (output .entry)) 0 (refusedText number) (now (output .exit)) r ⌝ }
 {
     let word = text::put_bytes(output, 0, b"refused ");
@@ -81,7 +83,7 @@ fn put_refused(output: &mut [u8], number: u64) -> usize
 // Write at the start of `output` what the listing program prints of the bytes it read; how many bytes that is. Internal to the program:
 // its output has room for all that it prints.
 pub fn print(image: &[u8], output: &mut [u8]) -> usize
-    requires { ⌜ 440150 ≤ length (now output) ⌝ }
+    requires { ⌜ 500150 ≤ length (now output) ⌝ }
     ensures { λ r. ⌜ Written (now (output .entry)) 0 (programText (now (image .entry))) (now (output .exit)) r ⌝ }
 {
     if PROGRAM_BYTES < image.len() {

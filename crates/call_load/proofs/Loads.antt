@@ -41,7 +41,7 @@ module _ (words : List ℕ) (order seed count : ℕ) where
     pub most : many ≤ mostSlots
     pub long : length after ≡ tableWords many
     pub sound : soundWith many after ≡ true
-    pub holds : contentsOf many after ≡ record { order = order; keys = [] }
+    pub holds : contentsOf many after ≡ record { order = order; entries = [] }
 
   pub begun : setUpOf set-up.Done ≡ setUpReply words order → (many : ℕ) → many ≡ slotsFor (length words) → (after : List ℕ)
       → after ≡ setUpAfter words order → Begun many after
@@ -50,7 +50,7 @@ module _ (words : List ℕ) (order seed count : ℕ) where
       let accepted : loadRefusal words order ≡ 0 = sym (ap (λ (r : Reply). r .refusal) e) in
       let spared = none-applies (wrongLength words ∷ wrongOrder order ∷ []) (omega arith) accepted in
       let right = slots-for-some (length words) (eqb-false (slotsFor (length words)) 0 (spared .0)) in
-      let blank : Contents = record { order = order; keys = [] } in
+      let blank : Contents = record { order = order; entries = [] } in
       let valid : Valid many blank = blank-valid many order (not-false (newOrder order) (spared .1 .0)) in
       let some : 0 < many = omega (arith, right .some) in
       let written : after ≡ fresh many blank = left ∙ rw accepted (ap (λ (n : ℕ). fresh n blank) (sym here)) in
@@ -66,10 +66,10 @@ module _ (words : List ℕ) (order seed count : ℕ) where
 
   -- the operations done
   pub done-so : (many : ℕ) (after : List ℕ) → Begun many after → (last : List ℕ)
-      → last ≡ fresh many (record { order = contentsOf many after .order; keys = loaded many seed count })
+      → last ≡ fresh many (record { order = contentsOf many after .order; entries = loaded many seed count })
       → (loadedOf load.Done ≡ loadReply words order) × (last ≡ loadAfter words order seed count)
   unfolding loadReply loadAfter rewritten
   done-so many after b last e = (
     rw (b .accepted),
-    rw (b .accepted, b .slots) (e ∙ ap (λ (c : Contents). fresh many (record { order = c .order; keys = loaded many seed count })) (b .holds)),
+    rw (b .accepted, b .slots) (e ∙ ap (λ (c : Contents). fresh many (record { order = c .order; entries = loaded many seed count })) (b .holds)),
   )

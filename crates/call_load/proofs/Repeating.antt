@@ -1,14 +1,16 @@
 -- The loop of a load: what is left of its operations makes of the set so far what all of them make of none. Assumes nothing.
 use mathlib.Core.Bool.{true}
-use mathlib.Core.List.{List, []}
+use mathlib.Core.List.{List, [], _∷_}
 use mathlib.Core.Path.{_≡_, refl, sym, ap, _∙_, subst}
 use Prim.Native.Nat.{ℕ, suc, _-_, _<_, _≤_}
 use native.Mathlib.Omega.{arith}
 use lib.ListN.{length, take}
 use Rattle.generator.specs.Generator.{next}
 use Rattle.lists.specs.Lists.{All}
+use Rattle.lists.proofs.Keep.{all-mapped}
 use Rattle.table.specs.Layout.{mostSlots, tableWords}
-use Rattle.table.specs.Contents.{Contents}
+use Rattle.table.specs.Contents.{Entry, Contents, entryKeys, keysIn}
+use Rattle.table.specs.Tags.{entryTags}
 use Rattle.table.specs.Table.{fresh, contentsOf}
 use Rattle.table.specs.Sound.{soundWith}
 use Rattle.table.proofs.Soundness.{sound-exactly}
@@ -18,18 +20,23 @@ use Rattle.call_changes.specs.Done.{IsLoadKey, withDone}
 use Rattle.call_changes.proofs.Loading.{chosen-key, done-all}
 
 -- Between two operations: the table is known, its keys are a load's, and its order is the one that it was set up with.
-pub record Under (many : ℕ) (first : List ℕ) (seed count : ℕ) (words keys : List ℕ) (state left : ℕ) : Type 0 where
-  pub known : Known many words keys
-  pub ours : All IsLoadKey (contentsOf many words .keys)
+pub record Under (many : ℕ) (first : List ℕ) (seed count : ℕ) (words keys tags : List ℕ) (state left : ℕ) : Type 0 where
+  pub known : Known many words keys tags
+  pub ours : All IsLoadKey (keysIn (contentsOf many words))
   pub ordered : contentsOf many words .order ≡ contentsOf many first .order
-  pub rest : doneAll many (operations state left) (contentsOf many words .keys) ≡ loaded many seed count
+  pub rest : doneAll many (operations state left) (contentsOf many words .entries) ≡ loaded many seed count
   pub room : 512 ≤ length keys
+  pub more : 512 ≤ length tags
+
+all-unmapped : (es : List Entry) → All IsLoadKey (entryKeys es) → All (λ e. IsLoadKey (e .key)) es
+all-unmapped [] h = tt
+all-unmapped (e ∷ es) h = (h .0, all-unmapped es (h .1))
 
 module _ (many : ℕ) (first : List ℕ) (seed count : ℕ) where
-  pub under-none : (keys : List ℕ) → 0 < many → many ≤ mostSlots → length first ≡ tableWords many → soundWith many first ≡ true
-      → contentsOf many first .keys ≡ [] → 512 ≤ length keys → Under many first seed count first keys seed count
+  pub under-none : (keys tags : List ℕ) → 0 < many → many ≤ mostSlots → length first ≡ tableWords many → soundWith many first ≡ true
+      → contentsOf many first .entries ≡ [] → 512 ≤ length keys → 512 ≤ length tags → Under many first seed count first keys tags seed count
   unfolding loaded
-  under-none keys some most long sound blank room =
+  under-none keys tags some most long sound blank room more =
       record {
         known =
             record {
@@ -37,24 +44,29 @@ module _ (many : ℕ) (first : List ℕ) (seed count : ℕ) where
               most = most;
               long = long;
               sound = sound;
-              listed = subst (λ (ks : List ℕ). take (length ks) keys ≡ ks) (sym blank) refl;
+              listed = subst (λ (es : List Entry). take (length (entryKeys es)) keys ≡ entryKeys es) (sym blank) refl;
+              measured = subst (λ (es : List Entry). take (length (entryKeys es)) tags ≡ entryTags es) (sym blank) refl;
             };
-        ours = subst (All IsLoadKey) (sym blank) tt;
+        ours = subst (λ (es : List Entry). All IsLoadKey (entryKeys es)) (sym blank) tt;
         ordered = refl;
         rest = ap (doneAll many (operations seed count)) blank;
         room = room;
+        more = more;
       }
 
-  module _ (words keys : List ℕ) (state left : ℕ) (under : Under many first seed count words keys state left) where
-    pub under-more : 0 < left → (stepped : ℕ) → stepped ≡ next state → (words′ keys′ : List ℕ) → Known many words′ keys′ → length keys′ ≡ length keys
-        → contentsOf many words′ ≡ withDone many (chosen stepped) (contentsOf many words) → Under many first seed count words′ keys′ stepped (left - 1)
-    under-more some stepped steps words′ keys′ known long e =
+  module _ (words keys tags : List ℕ) (state left : ℕ) (under : Under many first seed count words keys tags state left) where
+    pub under-more : 0 < left → (stepped : ℕ) → stepped ≡ next state → (words′ keys′ tags′ : List ℕ) → Known many words′ keys′ tags′ → length keys′ ≡ length keys → length tags′ ≡ length tags
+        → contentsOf many words′ ≡ withDone many (chosen stepped) (contentsOf many words) → Under many first seed count words′ keys′ tags′ stepped (left - 1)
+    under-more some stepped steps words′ keys′ tags′ known long wide e =
         let count-down : left ≡ suc (left - 1) = omega arith in
-        let set = contentsOf many words .keys in
-        let same : contentsOf many words′ .keys ≡ done many (chosen stepped) set = ap (λ (c : Contents). c .keys) e in
+        let set = contentsOf many words .entries in
+        let same : contentsOf many words′ .entries ≡ done many (chosen stepped) set = ap (λ (c : Contents). c .entries) e in
         record {
           known = known;
-          ours = subst (All IsLoadKey) (sym same) (done-all IsLoadKey many (chosen stepped) set (chosen-key stepped) (under .ours));
+          ours =
+              all-mapped IsLoadKey (λ e. e .key) (contentsOf many words′ .entries)
+              (subst (All (λ e. IsLoadKey (e .key))) (sym same)
+              (done-all (λ e. IsLoadKey (e .key)) many (chosen stepped) set (chosen-key stepped) (all-unmapped set (under .ours))));
           ordered = ap (λ (c : Contents). c .order) e ∙ under .ordered;
           rest =
               ap (doneAll many (operations stepped (left - 1))) same
@@ -62,12 +74,13 @@ module _ (many : ℕ) (first : List ℕ) (seed count : ℕ) where
               ∙ ap (λ (n : ℕ). doneAll many (operations state n) set) (sym count-down)
               ∙ under .rest;
           room = omega (arith, under .room);
+          more = omega (arith, under .more);
         }
 
-    pub under-all : left ≤ 0 → words ≡ fresh many (record { order = contentsOf many first .order; keys = loaded many seed count })
+    pub under-all : left ≤ 0 → words ≡ fresh many (record { order = contentsOf many first .order; entries = loaded many seed count })
     under-all none =
         let ended : left ≡ 0 = omega arith in
-        let set : contentsOf many words .keys ≡ loaded many seed count =
-        sym (ap (λ (n : ℕ). doneAll many (operations state n) (contentsOf many words .keys)) ended) ∙ under .rest
+        let set : contentsOf many words .entries ≡ loaded many seed count =
+        sym (ap (λ (n : ℕ). doneAll many (operations state n) (contentsOf many words .entries)) ended) ∙ under .rest
         in
-        sound-exactly many words (under .known .sound) ∙ (λ i. fresh many (record { order = under .ordered i; keys = set i }))
+        sound-exactly many words (under .known .sound) ∙ (λ i. fresh many (record { order = under .ordered i; entries = set i }))

@@ -9,7 +9,7 @@ use lib.ListN.{length}
 use borrow.Author.Tests.{ne-eqb}
 use Rattle.lists.specs.Lists.{member}
 use Rattle.table.specs.Layout.{mostSlots, tableWords}
-use Rattle.table.specs.Contents.{Contents}
+use Rattle.table.specs.Contents.{Contents, keysIn}
 use Rattle.table.specs.Table.{contentsOf}
 use Rattle.table.specs.Sound.{soundWith}
 use Rattle.table_limits.specs.Lengths.{slotsFor}
@@ -32,5 +32,5 @@ module _ (words : List ℕ) (many : ℕ) (some : 0 < many) (most : many ≤ most
   unfolding shown
   shown-is = ap (λ (n : ℕ). contentsOf n words) slots-here
 
-  pub member-shown : (key : ℕ) (b : Bool) → member key (contentsOf many words .keys) ≡ b → member key (shown words .keys) ≡ b
-  member-shown key b e = ap (λ (c : Contents). member key (c .keys)) shown-is ∙ e
+  pub member-shown : (key : ℕ) (b : Bool) → member key (keysIn (contentsOf many words)) ≡ b → member key (keysIn (shown words)) ≡ b
+  member-shown key b e = ap (λ (c : Contents). member key (keysIn c)) shown-is ∙ e

@@ -2,12 +2,14 @@
 use mathlib.Core.Bool.{cond}
 use mathlib.Core.List.{List, [], _∷_, _++_}
 use Prim.Native.Nat.{ℕ}
+use lib.IntN.{ℤ, pos}
 use lib.ListN.{length}
 use Rattle.lists.specs.Lists.{member, overwrite}
+use Rattle.measure.specs.Measure.{Measure, measuresBeside}
 use Rattle.priority.specs.Priority.{priorityOf}
 use Rattle.treap.specs.Levels.{rank, count, leader}
 use Rattle.treap.specs.Blocks.{blocksMet}
-use Rattle.table.specs.Contents.{Contents}
+use Rattle.table.specs.Contents.{Contents, keysIn, measureIn, entriesWith}
 use Rattle.table.specs.Table.{fresh}
 use Rattle.image.specs.Image.{imageOf, readImage}
 use Rattle.call_sets.specs.Sets.{joined, without}
@@ -15,7 +17,7 @@ use Rattle.call_sets.specs.Load.{loaded}
 use Rattle.table_limits.specs.Lengths.{slotsFor}
 use Rattle.intervals.specs.Intervals.{within}
 use Rattle.call_replies.specs.Replies.{Reply, lowest, unlessRefused}
-use Rattle.call_meaning.specs.Reasons.{wrongLength, wrongOrder, zeroKey, lowAboveHigh, notRising, notAnImage, notSound, keyHeld, keyAbsent, tooManyKeys, outputTooShort, shown}
+use Rattle.call_meaning.specs.Reasons.{wrongLength, wrongOrder, zeroKey, lowAboveHigh, notRising, notAnImage, notSound, keyHeld, keyAbsent, tooManyKeys, outputTooShort, wrongMeasure, wrongMeasures, shown}
 
 -- The table of an order and keys, of so many slots as the words have.
 unfoldable pub rewritten : List ℕ → Contents → List ℕ
@@ -23,7 +25,7 @@ rewritten words c = fresh (slotsFor (length words)) c
 
 -- A key's rank among those of an order and a set.
 unfoldable pub rankIn : Contents → ℕ → ℕ
-rankIn c key = rank (c .order) priorityOf (c .keys) key
+rankIn c key = rank (c .order) priorityOf (keysIn c) key
 
 -- "Set-up uses 1, 2."
 unfoldable pub setUpRefusal : List ℕ → ℕ → ℕ
@@ -34,7 +36,7 @@ setUpReply words order = record { refusal = setUpRefusal words order; numbers = 
 
 -- "Set-up writes a blank table."
 unfoldable pub setUpAfter : List ℕ → ℕ → List ℕ
-setUpAfter words order = unlessRefused (setUpRefusal words order) (rewritten words (record { order = order; keys = [] })) words
+setUpAfter words order = unlessRefused (setUpRefusal words order) (rewritten words (record { order = order; entries = [] })) words
 
 -- A load: "Errors: the checks are 1, 2."
 unfoldable pub loadRefusal : List ℕ → ℕ → ℕ
@@ -48,49 +50,59 @@ loadReply words order = record { refusal = loadRefusal words order; numbers = []
 unfoldable pub loadAfter : List ℕ → ℕ → ℕ → ℕ → List ℕ
 loadAfter words order seed count =
     unlessRefused (loadRefusal words order)
-    (rewritten words (record { order = order; keys = loaded (slotsFor (length words)) seed count }))
+    (rewritten words (record { order = order; entries = loaded (slotsFor (length words)) seed count }))
     words
 
--- "Build 1, 2, 5, 10."
-unfoldable pub buildRefusal : List ℕ → ℕ → List ℕ → ℕ
-buildRefusal words order list =
-    lowest (wrongLength words ∷ wrongOrder order ∷ notRising list ∷ tooManyKeys words (length list) ∷ [])
+-- "Build 1, 2, 5, 10"; 12 is "checked straight after 5". A list of keys, and beside it their lengths and corrections.
+unfoldable pub buildRefusal : List ℕ → ℕ → List ℕ → List ℕ → List ℤ → ℕ
+buildRefusal words order list lengths corrections =
+    lowest
+    (wrongLength words
+    ∷ wrongOrder order
+    ∷ notRising list
+    ∷ wrongMeasures list lengths corrections
+    ∷ tooManyKeys words (length list)
+    ∷ [])
 
-unfoldable pub buildReply : List ℕ → ℕ → List ℕ → Reply
-buildReply words order list = record { refusal = buildRefusal words order list; numbers = [] }
+unfoldable pub buildReply : List ℕ → ℕ → List ℕ → List ℕ → List ℤ → Reply
+buildReply words order list lengths corrections = record { refusal = buildRefusal words order list lengths corrections; numbers = [] }
 
 -- "An accepted build writes it, whatever the lent words held."
-unfoldable pub buildAfter : List ℕ → ℕ → List ℕ → List ℕ
-buildAfter words order list = unlessRefused (buildRefusal words order list) (rewritten words (record { order = order; keys = list })) words
+unfoldable pub buildAfter : List ℕ → ℕ → List ℕ → List ℕ → List ℤ → List ℕ
+buildAfter words order list lengths corrections =
+    unlessRefused (buildRefusal words order list lengths corrections)
+    (rewritten words (record { order = order; entries = entriesWith list (measuresBeside lengths corrections) }))
+    words
 
--- The order and the set that the words show, with a key that joins the set, and with one that leaves it.
-unfoldable pub grown : List ℕ → ℕ → Contents
-grown words key = record { order = shown words .order; keys = joined key (shown words .keys) }
+-- The order and the set that the words show, with a key and its measure that join the set, and with a key that leaves it.
+unfoldable pub grown : List ℕ → ℕ → Measure → Contents
+grown words key measure = record { order = shown words .order; entries = joined (record { key = key; measure = measure }) (shown words .entries) }
 
 unfoldable pub shrunk : List ℕ → ℕ → Contents
-shrunk words key = record { order = shown words .order; keys = without key (shown words .keys) }
+shrunk words key = record { order = shown words .order; entries = without key (shown words .entries) }
 
--- "Insert 1, 3, 7, 8, 10."
-unfoldable pub insertRefusal : List ℕ → ℕ → ℕ
-insertRefusal words key =
+-- "Insert 1, 3, 7, 8, 10"; 12 is checked "on insert after 3".
+unfoldable pub insertRefusal : List ℕ → ℕ → Measure → ℕ
+insertRefusal words key measure =
     lowest
     (wrongLength words
     ∷ zeroKey key
+    ∷ wrongMeasure measure
     ∷ notSound words
     ∷ keyHeld words key
-    ∷ tooManyKeys words (length (grown words key .keys))
+    ∷ tooManyKeys words (length (keysIn (grown words key measure)))
     ∷ [])
 
 -- "Insert and delete give the key's rank (for delete, the rank it had)."
-unfoldable pub insertReply : List ℕ → ℕ → Reply
-insertReply words key =
+unfoldable pub insertReply : List ℕ → ℕ → Measure → Reply
+insertReply words key measure =
     record {
-      refusal = insertRefusal words key;
-      numbers = unlessRefused (insertRefusal words key) (rankIn (grown words key) key ∷ []) (0 ∷ []);
+      refusal = insertRefusal words key measure;
+      numbers = unlessRefused (insertRefusal words key measure) (rankIn (grown words key measure) key ∷ []) (0 ∷ []);
     }
 
-unfoldable pub insertAfter : List ℕ → ℕ → List ℕ
-insertAfter words key = unlessRefused (insertRefusal words key) (rewritten words (grown words key)) words
+unfoldable pub insertAfter : List ℕ → ℕ → Measure → List ℕ
+insertAfter words key measure = unlessRefused (insertRefusal words key measure) (rewritten words (grown words key measure)) words
 
 -- "Delete 1, 3, 7, 9."
 unfoldable pub deleteRefusal : List ℕ → ℕ → ℕ
@@ -113,20 +125,26 @@ lookupRefusal words key = lowest (wrongLength words ∷ zeroKey key ∷ notSound
 -- "Lookup gives held or absent, and rank, count and leader (zeros when absent)": one for held, zero for absent, and these.
 unfoldable pub standingIn : Contents → ℕ → List ℕ
 standingIn c key =
-    cond (member key (c .keys))
-    (1 ∷ rankIn c key ∷ count (c .order) priorityOf (c .keys) key ∷ leader (c .order) priorityOf (c .keys) key ∷ [])
+    cond (member key (keysIn c))
+    (1 ∷ rankIn c key ∷ count (c .order) priorityOf (keysIn c) key ∷ leader (c .order) priorityOf (keysIn c) key ∷ [])
     (0 ∷ 0 ∷ 0 ∷ 0 ∷ [])
 
--- "It also gives the number of different blocks that hold the keys it compares on its way down."
+-- "It also gives the number of different blocks that hold the keys it compares on its way down" (01); and the measure, which "lookups
+-- carry" (02, N4): the length, zero when absent or not measured.
 unfoldable pub lookupReply : List ℕ → ℕ → Reply
 lookupReply words key =
     record {
       refusal = lookupRefusal words key;
       numbers =
           unlessRefused (lookupRefusal words key)
-          (standingIn (shown words) key ++ (blocksMet (shown words .order) priorityOf (shown words .keys) key ∷ []))
-          (0 ∷ 0 ∷ 0 ∷ 0 ∷ 0 ∷ []);
+          (standingIn (shown words) key
+          ++ (blocksMet (shown words .order) priorityOf (keysIn (shown words)) key ∷ measureIn (shown words .entries) key .length ∷ []))
+          (0 ∷ 0 ∷ 0 ∷ 0 ∷ 0 ∷ 0 ∷ []);
     }
+
+-- The correction that it gives beside these numbers.
+unfoldable pub lookupCorrection : List ℕ → ℕ → ℤ
+lookupCorrection words key = unlessRefused (lookupRefusal words key) (measureIn (shown words .entries) key .correction) (pos 0)
 
 -- "Range 1, 4, 7, 11."
 unfoldable pub rangeRefusal : List ℕ → ℕ → ℕ → List ℕ → ℕ
@@ -135,7 +153,7 @@ rangeRefusal words low high output =
     (wrongLength words
     ∷ lowAboveHigh low high
     ∷ notSound words
-    ∷ outputTooShort (length output) (length (within low high (shown words .keys)))
+    ∷ outputTooShort (length output) (length (within low high (keysIn (shown words))))
     ∷ [])
 
 -- "Range writes the held keys from low to high, both included, rising, and their number; later output words are unchanged."
@@ -143,12 +161,12 @@ unfoldable pub rangeReply : List ℕ → ℕ → ℕ → List ℕ → Reply
 rangeReply words low high output =
     record {
       refusal = rangeRefusal words low high output;
-      numbers = unlessRefused (rangeRefusal words low high output) (length (within low high (shown words .keys)) ∷ []) (0 ∷ []);
+      numbers = unlessRefused (rangeRefusal words low high output) (length (within low high (keysIn (shown words))) ∷ []) (0 ∷ []);
     }
 
 unfoldable pub rangeOutput : List ℕ → ℕ → ℕ → List ℕ → List ℕ
 rangeOutput words low high output =
-    unlessRefused (rangeRefusal words low high output) (overwrite output 0 (within low high (shown words .keys))) output
+    unlessRefused (rangeRefusal words low high output) (overwrite output 0 (within low high (keysIn (shown words)))) output
 
 -- "Writer 1, 7, 11."
 unfoldable pub writeRefusal : List ℕ → List ℕ → ℕ
@@ -169,7 +187,7 @@ writeOutput words output = unlessRefused (writeRefusal words output) (overwrite 
 -- "Reader 1, 6, 10."
 unfoldable pub readRefusal : List ℕ → List ℕ → ℕ
 readRefusal words bytes =
-    lowest (wrongLength words ∷ notAnImage bytes ∷ tooManyKeys words (length (readImage bytes .keys)) ∷ [])
+    lowest (wrongLength words ∷ notAnImage bytes ∷ tooManyKeys words (length (keysIn (readImage bytes))) ∷ [])
 
 unfoldable pub readReply : List ℕ → List ℕ → Reply
 readReply words bytes = record { refusal = readRefusal words bytes; numbers = [] }

@@ -1,11 +1,13 @@
--- The reasons for which a call is turned down, by document 01's numbers. Assumes nothing.
-use mathlib.Core.Bool.{not}
+-- The reasons for which a call is turned down, by the documents' numbers. Assumes nothing.
+use mathlib.Core.Bool.{not, _&&_}
 use mathlib.Core.List.{List}
 use Prim.Native.Nat.{ℕ}
 use lib.Dec.{eqb, ltb}
+use lib.IntN.{ℤ}
 use lib.ListN.{length}
-use Rattle.lists.specs.Lists.{member}
-use Rattle.table.specs.Contents.{Contents, newOrder, risingKeys}
+use Rattle.lists.specs.Lists.{every, member}
+use Rattle.measure.specs.Measure.{Measure, isMeasure, measuresBeside}
+use Rattle.table.specs.Contents.{Contents, newOrder, risingKeys, keysIn}
 use Rattle.table.specs.Table.{contentsOf}
 use Rattle.image.specs.Image.{isImage}
 use Rattle.table_limits.specs.Lengths.{slotsFor}
@@ -16,7 +18,7 @@ use Rattle.call_replies.specs.Replies.{Reason}
 unfoldable pub shown : List ℕ → Contents
 shown words = contentsOf (slotsFor (length words)) words
 
--- "1. Table length is not 3 + 6·M."
+-- "1. Table length is not 3 + 6·M" (01); it is 3 + 8·M (02, N4).
 unfoldable pub wrongLength : List ℕ → Reason
 wrongLength words = record { number = 1; applies = eqb (slotsFor (length words)) 0 }
 
@@ -46,11 +48,11 @@ notSound words = record { number = 7; applies = not (isSound words) }
 
 -- "8. Key to insert is held."
 unfoldable pub keyHeld : List ℕ → ℕ → Reason
-keyHeld words key = record { number = 8; applies = member key (shown words .keys) }
+keyHeld words key = record { number = 8; applies = member key (keysIn (shown words)) }
 
 -- "9. Key to delete is absent."
 unfoldable pub keyAbsent : List ℕ → ℕ → Reason
-keyAbsent words key = record { number = 9; applies = not (member key (shown words .keys)) }
+keyAbsent words key = record { number = 9; applies = not (member key (keysIn (shown words))) }
 
 -- "10. More keys than M would result": so many keys.
 unfoldable pub tooManyKeys : List ℕ → ℕ → Reason
@@ -59,3 +61,18 @@ tooManyKeys words n = record { number = 10; applies = ltb (slotsFor (length word
 -- "11. The output slice is shorter than the output."
 unfoldable pub outputTooShort : ℕ → ℕ → Reason
 outputTooShort room long = record { number = 11; applies = ltb room long }
+
+-- "12 for a measure outside these rules, missing or left over" (02, N4): on insert, the one measure; on build, of the lists of lengths and
+-- corrections beside the keys, that one is shorter or longer than the keys, or that some measure is outside the rules.
+unfoldable pub wrongMeasure : Measure → Reason
+wrongMeasure measure = record { number = 12; applies = not (isMeasure measure) }
+
+unfoldable pub wrongMeasures : List ℕ → List ℕ → List ℤ → Reason
+wrongMeasures list lengths corrections =
+    record {
+      number = 12;
+      applies =
+          not
+          (eqb (length lengths) (length list)
+          && (eqb (length corrections) (length list) && every isMeasure (measuresBeside lengths corrections)));
+    }

@@ -1,15 +1,14 @@
 -- What the tests of a range say of its reply and of the output after it. Assumes nothing.
-use mathlib.Core.Bool.{Bool, true, false, not}
-use mathlib.Core.List.{List, [], _∷_}
+use mathlib.Core.Bool.{true, false}
+use mathlib.Core.List.{List}
 use mathlib.Core.Logic.{_≢_}
-use mathlib.Core.Path.{_≡_, refl, sym, ap, _∙_}
+use mathlib.Core.Path.{_≡_, sym, ap, _∙_}
 use Prim.Native.Nat.{ℕ, _<_, _≤_}
-use native.Mathlib.Omega.{arith}
 use lib.Dec.{eqb, ltb}
 use lib.ListN.{length}
 use borrow.Author.Tests.{ne-eqb, lt-ltb, le-ltb}
 use Rattle.lists.specs.Lists.{overwrite}
-use Rattle.table.specs.Contents.{Contents}
+use Rattle.table.specs.Contents.{Contents, keysIn}
 use Rattle.table.specs.Layout.{mostSlots, tableWords}
 use Rattle.table.specs.Table.{contentsOf}
 use Rattle.table.specs.Sound.{soundWith}
@@ -53,9 +52,9 @@ module _ (words : List ℕ) (low high : ℕ) (output : List ℕ) where
         (rw (slots-right, in-order, unsound), rw (slots-right, in-order, unsound))
 
     -- the keys of the range, and how many they are
-    module _ (sound : soundWith many words ≡ true) (chosen : List ℕ) (found : chosen ≡ within low high (contentsOf many words .keys)) where
-      chosen-shown : within low high (shown words .keys) ≡ chosen
-      chosen-shown = ap (λ (c : Contents). within low high (c .keys)) (shown-is words many some most long) ∙ sym found
+    module _ (sound : soundWith many words ≡ true) (chosen : List ℕ) (found : chosen ≡ within low high (keysIn (contentsOf many words))) where
+      chosen-shown : within low high (keysIn (shown words)) ≡ chosen
+      chosen-shown = ap (λ (c : Contents). within low high (keysIn c)) (shown-is words many some most long) ∙ sym found
 
       pub refused-short : length output < length chosen → Meets (Refused OutputTooShort) output
       unfolding rangeReply rangeOutput rangeRefusal wrongLength lowAboveHigh notSound outputTooShort

@@ -18,14 +18,15 @@ fn range_in(
     low: u64,
     high: u64,
     keys: &mut [u64],
+    tags: &mut [u64],
     output: &mut [u64],
     constants: &[u64; CONSTANT_COUNT],
 ) -> Ranged
-    requires { ⌜ (0 < many) × (many ≤ mostSlots) × (length (now table) ≡ tableWords many) × (low ≤ high) × (many ≤ length (now keys)) × HoldsConstants (now constants) ⌝ }
+    requires { ⌜ (0 < many) × (many ≤ mostSlots) × (length (now table) ≡ tableWords many) × (low ≤ high) × (many ≤ length (now keys)) × (many ≤ length (now tags)) × HoldsConstants (now constants) ⌝ }
     ensures { λ r. ⌜ rangedOf r ≡ rangeReply (now (table .entry)) low high (now (output .entry)) ⌝ }
     ensures { λ _. ⌜ now (output .exit) ≡ rangeOutput (now (table .entry)) low high (now (output .entry)) ⌝ }
 {
-    let found = table_examine::examine(table, many, keys, constants);
+    let found = table_examine::examine(table, many, keys, tags, constants);
     let Verdict::Sound(n) = found else {
         return Ranged::Refused(Refusal::NotSound);
     };
@@ -45,7 +46,17 @@ fn range_with_room(table: &[u64], many: usize, low: u64, high: u64, output: &mut
 {
     let constants = priority::constant_table();
     let mut keys = [0u64; 4096];
-    range_in(table, many, low, high, &mut keys, output, &constants)
+    let mut tags = [0u64; 4096];
+    range_in(
+        table,
+        many,
+        low,
+        high,
+        &mut keys,
+        &mut tags,
+        output,
+        &constants,
+    )
 }
 
 // Write at the start of `output` the keys that the table holds from `low` to `high`, both included, rising. Refusals: 1, 4, 7, 11.

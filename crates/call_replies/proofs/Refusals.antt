@@ -7,7 +7,7 @@ use native.Mathlib.Omega.{arith}
 use Rattle.lists.specs.Lists.{All}
 use Rattle.lists.proofs.Tests.{by-test}
 use Rattle.call_replies.specs.declared.Refusal.{Refusal}
-use Rattle.call_replies.specs.declared.Refusal.the-variants.{WrongLength, WrongOrder, ZeroKey, LowAboveHigh, NotRising, NotAnImage, NotSound, KeyHeld, KeyAbsent, TooManyKeys, OutputTooShort}
+use Rattle.call_replies.specs.declared.Refusal.the-variants.{WrongLength, WrongOrder, ZeroKey, LowAboveHigh, NotRising, NotAnImage, NotSound, KeyHeld, KeyAbsent, TooManyKeys, OutputTooShort, WrongMeasure}
 use Rattle.call_replies.specs.Replies.{numberOf, Reason, lowest, unlessRefused}
 
 -- a refusal has a number
@@ -23,6 +23,7 @@ numbered KeyHeld = omega arith
 numbered KeyAbsent = omega arith
 numbered TooManyKeys = omega arith
 numbered OutputTooShort = omega arith
+numbered WrongMeasure = omega arith
 
 -- where no number is returned, no reason applies
 pub none-applies : (rs : List Reason) → All (λ r. 1 ≤ r .number) rs → lowest rs ≡ 0 → All (λ r. r .applies ≡ false) rs

@@ -2,8 +2,9 @@
 use mathlib.Core.Bool.{Bool, cond}
 use mathlib.Core.List.{List, [], _∷_}
 use Prim.Native.Nat.{ℕ, zero, suc}
+use lib.IntN.{ℤ, pos}
 use Rattle.call_replies.specs.declared.Refusal.{Refusal}
-use Rattle.call_replies.specs.declared.Refusal.the-variants.{WrongLength, WrongOrder, ZeroKey, LowAboveHigh, NotRising, NotAnImage, NotSound, KeyHeld, KeyAbsent, TooManyKeys, OutputTooShort}
+use Rattle.call_replies.specs.declared.Refusal.the-variants.{WrongLength, WrongOrder, ZeroKey, LowAboveHigh, NotRising, NotAnImage, NotSound, KeyHeld, KeyAbsent, TooManyKeys, OutputTooShort, WrongMeasure}
 use Rattle.call_replies.specs.declared.SetUp.{SetUp}
 use Rattle.call_replies.specs.declared.SetUp.the-variants as set-up
 use Rattle.call_replies.specs.declared.Loaded.{Loaded}
@@ -34,7 +35,8 @@ pub record Reply : Type 0 where
   pub refusal : ℕ
   pub numbers : List ℕ
 
--- "Turned down because of the input" and "because of the state", 1 to 11.
+-- "Turned down because of the input" and "because of the state", 1 to 11 (01); "12 for a measure outside these rules, missing or left over"
+-- (02, N4).
 abbrev pub numberOf : Refusal → ℕ
 numberOf WrongLength = 1
 numberOf WrongOrder = 2
@@ -47,13 +49,15 @@ numberOf KeyHeld = 8
 numberOf KeyAbsent = 9
 numberOf TooManyKeys = 10
 numberOf OutputTooShort = 11
+numberOf WrongMeasure = 12
 
 -- A reason for a refusal: its number, and whether it applies.
 pub record Reason : Type 0 where
   pub number : ℕ
   pub applies : Bool
 
--- "The lowest number that applies is returned": of reasons by rising number, the first that applies; zero where none does.
+-- "The lowest number that applies is returned": of reasons by rising number, the first that applies; zero where none does. A reason whose
+-- place document 02 states ("checked straight after 5, on insert after 3") stands there.
 abbrev pub lowest : List Reason → ℕ
 lowest [] = 0
 lowest (r ∷ rs) = cond (r .applies) (r .number) (lowest rs)
@@ -80,12 +84,18 @@ abbrev pub deletedOf : Deleted → Reply
 deletedOf (deleted.Rank n) = record { refusal = 0; numbers = n ∷ [] }
 deletedOf (deleted.Refused r) = record { refusal = numberOf r; numbers = 0 ∷ [] }
 
--- "Lookup gives held or absent, and rank, count and leader (zeros when absent). It also gives the number of different blocks":
--- one for held, zero for absent, then the four numbers.
+-- "Lookup gives held or absent, and rank, count and leader (zeros when absent). It also gives the number of different blocks" (01); lookups
+-- carry measures (02, N4): one for held, zero for absent, then the four numbers, then the length.
 abbrev pub lookedUpOf : LookedUp → Reply
-lookedUpOf (looked-up.Held s blocks) = record { refusal = 0; numbers = 1 ∷ s .rank ∷ s .count ∷ s .leader ∷ blocks ∷ [] }
-lookedUpOf (looked-up.Absent blocks) = record { refusal = 0; numbers = 0 ∷ 0 ∷ 0 ∷ 0 ∷ blocks ∷ [] }
-lookedUpOf (looked-up.Refused r) = record { refusal = numberOf r; numbers = 0 ∷ 0 ∷ 0 ∷ 0 ∷ 0 ∷ [] }
+lookedUpOf (looked-up.Held s blocks) = record { refusal = 0; numbers = 1 ∷ s .rank ∷ s .count ∷ s .leader ∷ blocks ∷ s .length ∷ [] }
+lookedUpOf (looked-up.Absent blocks) = record { refusal = 0; numbers = 0 ∷ 0 ∷ 0 ∷ 0 ∷ blocks ∷ 0 ∷ [] }
+lookedUpOf (looked-up.Refused r) = record { refusal = numberOf r; numbers = 0 ∷ 0 ∷ 0 ∷ 0 ∷ 0 ∷ 0 ∷ [] }
+
+-- The correction that a lookup gives, the one number of a reply that has a sign; zero where there is none.
+abbrev pub correctionOf : LookedUp → ℤ
+correctionOf (looked-up.Held s blocks) = s .correction
+correctionOf (looked-up.Absent blocks) = pos 0
+correctionOf (looked-up.Refused r) = pos 0
 
 -- "The reply gives the number of different blocks over all the search paths" (02, N2).
 abbrev pub batchedOf : Batched → Reply
@@ -97,7 +107,7 @@ abbrev pub rangedOf : Ranged → Reply
 rangedOf (ranged.Wrote n) = record { refusal = 0; numbers = n ∷ [] }
 rangedOf (ranged.Refused r) = record { refusal = numberOf r; numbers = 0 ∷ [] }
 
--- "Length is 15 + 14·b + 30·n; the writer gives it".
+-- "Length is 15 + 14·b + 30·n; the writer gives it", and 6 bytes more for each measured key (02, N4).
 abbrev pub writtenOf : Written → Reply
 writtenOf (written.Bytes n) = record { refusal = 0; numbers = n ∷ [] }
 writtenOf (written.Refused r) = record { refusal = numberOf r; numbers = 0 ∷ [] }

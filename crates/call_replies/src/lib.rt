@@ -27,9 +27,11 @@ pub enum Refusal {
     TooManyKeys,
     // The output is longer than the room for it.
     OutputTooShort,
+    // A measure is outside the rules, is missing or is left over.
+    WrongMeasure,
 }
 
-// The number of a refusal, 1 to 11.
+// The number of a refusal, 1 to 12.
 pub fn number(reason: Refusal) -> u64
     ensures { λ r. ⌜ r ≡ numberOf reason ⌝ }
 {
@@ -45,6 +47,7 @@ pub fn number(reason: Refusal) -> u64
         Refusal::KeyAbsent => 9,
         Refusal::TooManyKeys => 10,
         Refusal::OutputTooShort => 11,
+        Refusal::WrongMeasure => 12,
     }
 }
 
@@ -78,7 +81,7 @@ pub enum Deleted {
     Refused(Refusal),
 }
 
-// The answer of a lookup: where a held key stands, and how many blocks hold the keys that were compared.
+// The answer of a lookup: where a held key stands, with its measure, and how many blocks hold the keys that were compared.
 pub enum LookedUp {
     Held(Standing, usize),
     Absent(usize),

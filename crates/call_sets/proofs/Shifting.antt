@@ -1,31 +1,14 @@
--- A key put in its place from above: those above it move up one by one, then it is written. Assumes that the keys rise.
+-- Elements of a list moved one by one, up from the end to make room at a place or down over the one there. Assumes nothing.
 use mathlib.Core.List.{List, [], _∷_, _++_, append-assoc}
-use mathlib.Core.Path.{_≡_, refl, sym, ap, ap₂, _∙_, subst}
-use Prim.Native.Nat.{ℕ, zero, suc, _+_, _-_, _<_, _≤_}
+use mathlib.Core.Path.{_≡_, refl, sym, ap, ap₂, _∙_}
+use Prim.Native.Nat.{ℕ, suc, _+_, _-_, _<_, _≤_}
 use native.Mathlib.Omega.{arith}
-use lib.Dec.{ltb}
 use lib.ListN.{length, getD, take, drop, set, length-append, length-set}
-use lib.Seq.{slice, slice-empty, length-take-le, take-suc, take-take, take-at, getD-take, getD-drop, drop-cons, set-at}
-use borrow.Author.Tests.{lt-ltb, le-ltb}
-use Rattle.lists.specs.Lists.{All, Rising, insertBy, overwrite}
-use Rattle.lists.proofs.Keep.{all-at}
+use lib.Seq.{slice, slice-empty, slice-cons, length-take-le, length-slice, take-suc, take-take, take-at, getD-take, getD-drop, getD-append-add, set-at}
+use Rattle.lists.specs.Lists.{overwrite}
 use Rattle.lists.proofs.Overwrite.{overwrite-none}
-use Rattle.call_sets.specs.Sets.{joined}
-
--- ---- the place of a key
--- a key goes before those above it and after those that are not
-put-between : (key : ℕ) (xs : List ℕ) (at : ℕ) → Rising xs → at ≤ length xs → ((i : ℕ) → suc i ≡ at → getD xs i 0 ≤ key)
-    → All (λ y. key < y) (drop at xs) → insertBy ltb key xs ≡ take at xs ++ key ∷ drop at xs
-put-between key [] zero rising h low above = refl
-put-between key [] (suc at) rising h low above = absurd (omega arith)
-put-between key (x ∷ xs) zero rising h low above = rw (lt-ltb key x (above .0)) refl
-put-between key (x ∷ xs) (suc zero) rising h low above =
-    rw (le-ltb key x (low 0 refl))
-    (ap (λ (ys : List ℕ). x ∷ ys) (put-between key xs zero (rising .1) (omega arith) (λ i e. absurd (omega arith)) above))
-put-between key (x ∷ xs) (suc (suc at)) rising h low above =
-    let first = all-at (λ y. x < y) xs at 0 (rising .0) (omega arith) in
-    rw (le-ltb key x (omega (arith, low (suc at) refl)))
-    (ap (λ (ys : List ℕ). x ∷ ys) (put-between key xs (suc at) (rising .1) (omega arith) (λ i e. low (suc i) (ap suc e)) above))
+use Rattle.lists.proofs.Parts.{slice-more, overwrite-more}
+use Rattle.call_sets.specs.Places.{putAt, removeAt}
 
 -- ---- overwriting from an index on
 -- the element before what was overwritten
@@ -47,6 +30,20 @@ before-overwritten old new at i h fits =
     ∙ ap (λ (l : List ℕ). getD l i 0) (take-at (take at old) (new ++ drop (at + length new) old) at (length-take-le at old fits))
     ∙ getD-take at old i 0 h
 
+-- and so is what is behind it
+behind-overwritten : (old new : List ℕ) (at i : ℕ) → at ≤ length old → at + length new ≤ i → getD (overwrite old at new) i 0 ≡ getD old i 0
+unfolding overwrite
+behind-overwritten old new at i fits h =
+    let front = take at old ++ new in
+    let past = at + length new in
+    let ends : length front ≡ past = length-append (take at old) new ∙ omega (arith, length-take-le at old fits) in
+    let here : past + (i - past) ≡ i = omega arith in
+    ap (λ (l : List ℕ). getD l i 0) (sym (append-assoc (take at old) new (drop past old)))
+    ∙ ap (λ (k : ℕ). getD (front ++ drop past old) k 0) (sym (ap (λ (k : ℕ). k + (i - past)) ends ∙ here))
+    ∙ getD-append-add front (drop past old) (i - past) 0
+    ∙ getD-drop past old (i - past) 0
+    ∙ ap (λ (k : ℕ). getD old k 0) here
+
 -- the start together with it
 with-start : (old new : List ℕ) (at : ℕ) → at ≤ length old → overwrite old at new ≡ overwrite old 0 (take at old ++ new)
 unfolding overwrite
@@ -55,63 +52,98 @@ with-start old new at h =
     sym (append-assoc (take at old) new (drop (at + length new) old))
     ∙ ap (λ (n : ℕ). (take at old ++ new) ++ drop n old) many
 
--- ---- the loop
-module _ (old : List ℕ) (n key : ℕ) where
-  -- The keys from index `at` on stand one further up, and the key is below all of them.
-  pub record Shifted (words : List ℕ) (at : ℕ) : Type 0 where
-    pub size : length words ≡ length old
-    pub reach : at ≤ n
-    pub moved : words ≡ overwrite old (suc at) (slice at n old)
-    pub above : All (λ y. key < y) (slice at n old)
+-- ---- room made at a place
+-- The elements from index `i` on, up to `n`, stand one further up; `i` is not below the place.
+pub record Raised (old : List ℕ) (n at : ℕ) (words : List ℕ) (i : ℕ) : Type 0 where
+  pub size : length words ≡ length old
+  pub above : at ≤ i
+  pub reach : i ≤ n
+  pub moved : words ≡ overwrite old (suc i) (slice i n old)
 
-  pub shifted-none : Shifted old n
-  shifted-none =
+module _ (old : List ℕ) (n at : ℕ) where
+  pub raised-none : at ≤ n → Raised old n at old n
+  raised-none h =
       record {
         size = refl;
+        above = h;
         reach = omega arith;
         moved = sym (ap (overwrite old (suc n)) (slice-empty n old) ∙ overwrite-none old (suc n));
-        above = subst (All (λ y. key < y)) (sym (slice-empty n old)) tt;
       }
 
-  module _ (room : n < length old) (words : List ℕ) (at : ℕ) (s : Shifted words at) where
-    pub shifted-read : 0 < at → getD words (at - 1) 0 ≡ getD old (at - 1) 0
-    shifted-read h =
-        ap (λ (l : List ℕ). getD l (at - 1) 0) (s .moved)
-        ∙ before-overwritten old (slice at n old) (suc at) (at - 1) (omega arith) (omega (arith, s .reach))
-
-    one-more : 0 < at → slice (at - 1) n old ≡ getD old (at - 1) 0 ∷ slice at n old
-    one-more h =
-        let e : suc (at - 1) ≡ at = omega arith in
-        drop-cons (take n old) (at - 1) 0 (omega (arith, s .reach, length-take-le n old (omega arith)))
-        ∙ ap₂ (λ (y k : ℕ). y ∷ drop k (take n old)) (getD-take n old (at - 1) 0 (omega (arith, s .reach))) e
-
-    pub shifted-more : 0 < at → key < getD words (at - 1) 0 → Shifted (set words at (getD words (at - 1) 0)) (at - 1)
-    shifted-more h less =
-        let e : suc (at - 1) ≡ at = omega arith in
+  module _ (room : n < length old) (words : List ℕ) (i : ℕ) (s : Raised old n at words i) where
+    pub raised-more : at < i → Raised old n at (set words i (getD words (i - 1) 0)) (i - 1)
+    raised-more h =
+        let e : suc (i - 1) ≡ i = omega arith in
+        let read : getD words (i - 1) 0 ≡ getD old (i - 1) 0 =
+        ap (λ (l : List ℕ). getD l (i - 1) 0) (s .moved)
+        ∙ before-overwritten old (slice i n old) (suc i) (i - 1) (omega arith) (omega (arith, s .reach))
+        in
+        let longer : slice (i - 1) n old ≡ getD old (i - 1) 0 ∷ slice i n old =
+        slice-cons (i - 1) n old 0 (omega (arith, s .reach)) (omega arith) ∙ ap (λ (k : ℕ). getD old (i - 1) 0 ∷ slice k n old) e
+        in
         record {
-          size = length-set words at (getD words (at - 1) 0) ∙ s .size;
+          size = length-set words i (getD words (i - 1) 0) ∙ s .size;
+          above = omega arith;
           reach = omega (arith, s .reach);
           moved =
-              ap₂ (λ (l : List ℕ) (y : ℕ). set l at y) (s .moved) (shifted-read h)
-              ∙ set-before old (slice at n old) at (getD old (at - 1) 0) (omega (arith, s .reach))
-              ∙ ap₂ (overwrite old) (sym e) (sym (one-more h));
-          above =
-              subst (All (λ y. key < y)) (sym (one-more h)) (subst (λ (y : ℕ). key < y) (shifted-read h) less, s .above);
+              ap₂ (λ (l : List ℕ) (y : ℕ). set l i y) (s .moved) read
+              ∙ set-before old (slice i n old) i (getD old (i - 1) 0) (omega (arith, s .reach))
+              ∙ ap₂ (overwrite old) (sym e) (sym longer);
         }
 
-    pub shifted-all : Rising (take n old) → (0 < at → getD words (at - 1) 0 ≤ key)
-        → set words at key ≡ overwrite old 0 (joined key (take n old))
-    unfolding joined
-    shifted-all rising low =
-        let low-in : (i : ℕ) → suc i ≡ at → getD (take n old) i 0 ≤ key =
-        λ i e.
-        let here : at - 1 ≡ i = omega arith in
-        let read = subst (λ (j : ℕ). getD words j 0 ≡ getD old j 0) here (shifted-read (omega arith)) in
-        omega (arith, getD-take n old i 0 (omega (arith, s .reach)), read, subst (λ (j : ℕ). getD words j 0 ≤ key) here (low (omega arith)))
+    pub raised-all : (value : ℕ) → i ≤ at → set words at value ≡ overwrite old 0 (putAt at value (take n old))
+    unfolding putAt
+    raised-all value h =
+        let e : i ≡ at = omega (arith, s .above) in
+        let few : at ≤ n = omega (arith, s .reach) in
+        ap (λ (l : List ℕ). set l at value) (s .moved ∙ ap (λ (k : ℕ). overwrite old (suc k) (slice k n old)) e)
+        ∙ set-before old (slice at n old) at value (omega arith)
+        ∙ with-start old (value ∷ slice at n old) at (omega arith)
+        ∙ ap (λ (front : List ℕ). overwrite old 0 (front ++ value ∷ slice at n old)) (sym (take-take at n old few))
+
+-- ---- a place closed
+-- The elements above the place, up to index `i`, stand one further down.
+pub record Lowered (old : List ℕ) (n at : ℕ) (words : List ℕ) (i : ℕ) : Type 0 where
+  pub size : length words ≡ length old
+  pub above : at < i
+  pub reach : i ≤ n
+  pub moved : words ≡ overwrite old at (slice (suc at) i old)
+
+module _ (old : List ℕ) (n at : ℕ) where
+  pub lowered-none : at < n → Lowered old n at old (at + 1)
+  lowered-none h =
+      let e : at + 1 ≡ suc at = omega arith in
+      record {
+        size = refl;
+        above = omega arith;
+        reach = omega arith;
+        moved = sym (ap (λ (k : ℕ). overwrite old at (slice (suc at) k old)) e ∙ ap (overwrite old at) (slice-empty (suc at) old) ∙ overwrite-none old at);
+      }
+
+  module _ (fit : n ≤ length old) (words : List ℕ) (i : ℕ) (s : Lowered old n at words i) where
+    pub lowered-more : i < n → Lowered old n at (set words (i - 1) (getD words i 0)) (i + 1)
+    lowered-more h =
+        let part = slice (suc at) i old in
+        let few : at + length part ≡ i - 1 = omega (arith, s .above, length-slice (suc at) i old (omega arith)) in
+        let read : getD words i 0 ≡ getD old i 0 =
+        ap (λ (l : List ℕ). getD l i 0) (s .moved) ∙ behind-overwritten old part at i (omega (arith, s .above)) (omega arith)
         in
-        ap (λ (l : List ℕ). set l at key) (s .moved)
-        ∙ set-before old (slice at n old) at key (omega (arith, s .reach))
-        ∙ with-start old (key ∷ slice at n old) at (omega (arith, s .reach))
-        ∙ ap (λ (front : List ℕ). overwrite old 0 (front ++ key ∷ slice at n old)) (sym (take-take at n old (s .reach)))
-        ∙ ap (overwrite old 0)
-        (sym (put-between key (take n old) at rising (omega (arith, s .reach, length-take-le n old (omega arith))) low-in (s .above)))
+        record {
+          size = length-set words (i - 1) (getD words i 0) ∙ s .size;
+          above = omega (arith, s .above);
+          reach = omega arith;
+          moved =
+              ap₂ (λ (l : List ℕ) (y : ℕ). set l (i - 1) y) (s .moved) read
+              ∙ overwrite-more at (i - 1) part old few (omega arith) (getD old i 0) (omega (arith, s .above))
+              ∙ ap (overwrite old at) (sym (slice-more (suc at) i old (s .above) (omega arith)));
+        }
+
+    pub lowered-all : n ≤ i → words ≡ overwrite old 0 (removeAt at (take n old))
+    unfolding removeAt
+    lowered-all h =
+        let e : i ≡ n = omega (arith, s .reach) in
+        let few : at ≤ n = omega (arith, s .above) in
+        s .moved
+        ∙ ap (λ (k : ℕ). overwrite old at (slice (suc at) k old)) e
+        ∙ with-start old (slice (suc at) n old) at (omega arith)
+        ∙ ap (λ (front : List ℕ). overwrite old 0 (front ++ slice (suc at) n old)) (sym (take-take at n old few))

@@ -6,6 +6,8 @@ use lib.Dec.{eqb}
 use lib.ListN.{length}
 use Rattle.generator.specs.Generator.{next}
 use Rattle.lists.specs.Lists.{member}
+use Rattle.measure.specs.Measure.{unmeasured}
+use Rattle.table.specs.Contents.{Entry, entryKeys}
 use Rattle.call_sets.specs.Sets.{joined, without}
 
 -- What an operation is: an "insert", a "delete" or a "lookup" of a key.
@@ -33,17 +35,21 @@ abbrev pub operations : ℕ → ℕ → List Operation
 operations s zero = []
 operations s (suc count) = chosen (next s) ∷ operations (next s) count
 
+-- "A load's keys are unmeasured" (02, N4).
+abbrev pub plain : ℕ → Entry
+plain key = record { key = key; measure = unmeasured }
+
 -- What an operation makes of a set of at most M keys; "a refused one counts as done": an insert where the key is held or M keys are
 -- there, a delete where it is not held.
-unfoldable pub done : ℕ → Operation → List ℕ → List ℕ
-done many (inserting key) set = cond (member key set || eqb (length set) many) set (joined key set)
-done many (deleting key) set = cond (member key set) (without key set) set
+unfoldable pub done : ℕ → Operation → List Entry → List Entry
+done many (inserting key) set = cond (member key (entryKeys set) || eqb (length set) many) set (joined (plain key) set)
+done many (deleting key) set = cond (member key (entryKeys set)) (without key set) set
 done many (lookingUp key) set = set
 
-abbrev pub doneAll : ℕ → List Operation → List ℕ → List ℕ
+abbrev pub doneAll : ℕ → List Operation → List Entry → List Entry
 doneAll many [] set = set
 doneAll many (operation ∷ operations) set = doneAll many operations (done many operation set)
 
 -- "The end set": what so many operations from the seed on make of the empty set. The order does not matter for it.
-unfoldable pub loaded : ℕ → ℕ → ℕ → List ℕ
+unfoldable pub loaded : ℕ → ℕ → ℕ → List Entry
 loaded many seed count = doneAll many (operations seed count) []

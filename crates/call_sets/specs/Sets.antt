@@ -1,14 +1,15 @@
--- A set of keys, as the rising list of them, with a key more or a key less. Assumes nothing.
+-- A set of keys with their measures, as the list of its entries by rising key, with a key more or a key less. Assumes nothing.
 use mathlib.Core.Bool.{not}
 use mathlib.Core.List.{List}
 use Prim.Native.Nat.{ℕ}
-use lib.Dec.{eqb, ltb}
+use lib.Dec.{eqb}
 use Rattle.lists.specs.Lists.{keep, insertBy}
+use Rattle.table.specs.Contents.{Entry, keyBelow}
 
--- "the key joins the set"
-unfoldable pub joined : ℕ → List ℕ → List ℕ
-joined key keys = insertBy ltb key keys
+-- "the key joins the set", with its measure
+unfoldable pub joined : Entry → List Entry → List Entry
+joined entry set = insertBy keyBelow entry set
 
 -- "the key leaves it"
-unfoldable pub without : ℕ → List ℕ → List ℕ
-without key keys = keep (λ k. not (eqb k key)) keys
+unfoldable pub without : ℕ → List Entry → List Entry
+without key set = keep (λ e. not (eqb (e .key) key)) set

@@ -1,38 +1,70 @@
-// Changing a rising list of keys in place: a key more, or a key less.
+// Changing lists in place: where a key stands among rising keys, and an element more or less at a place. The same two functions
+// serve a list of keys and the list of tags beside it.
+ghost use mathlib.Core.Bool.{true};
 ghost use mathlib.Core.Path.{_≡_};
 ghost use Prim.Native.Nat.{_<_, _≤_};
 ghost use lib.ListN.{length, take};
-ghost use Rattle.lists.specs.Lists.{Rising, overwrite};
-ghost use Rattle.call_sets.specs.Sets.{joined, without};
+ghost use Rattle.lists.specs.Lists.{Rising, member, overwrite};
+ghost use Rattle.call_sets.specs.Places.{placeOf, putAt, removeAt};
 
-// Put a key into its place among the first `n`, which rise; those above it move up. Internal to this library's crates: their
-// lists have room for it.
-pub fn put_in(keys: &mut [u64], n: usize, key: u64)
-    requires { ⌜ (n < length (now keys)) × Rising (take n (now keys)) ⌝ }
-    ensures { λ _. ⌜ now (keys .exit) ≡ overwrite (now (keys .entry)) 0 (joined key (take n (now (keys .entry)))) ⌝ }
-{
-    let mut at = n;
-    while 0 < at && key < keys[at - 1] {
-        keys[at] = keys[at - 1];
-        at -= 1;
-    }
-    keys[at] = key;
-}
-
-// Take a key out of the first `n`; those above it move down. How many are left. Internal to this library's crates: their lists
-// have so many keys.
-pub fn take_out(keys: &mut [u64], n: usize, key: u64) -> usize
-    requires { ⌜ n ≤ length (now keys) ⌝ }
-    ensures { λ r. ⌜ r ≡ length (without key (take n (now (keys .entry)))) ⌝ }
-    ensures { λ _. ⌜ now (keys .exit) ≡ overwrite (now (keys .entry)) 0 (without key (take n (now (keys .entry)))) ⌝ }
+// Where a key stands, or would stand, among the first `n`, which rise. Internal to this library's crates: their lists have so many
+// keys.
+fn place_of(keys: &[u64], n: usize, key: u64) -> usize
+    requires { ⌜ (n ≤ length (now keys)) × Rising (take n (now keys)) ⌝ }
+    ensures { λ r. ⌜ r ≡ placeOf key (take n (now (keys .entry))) ⌝ }
 {
     let mut at = 0;
-    for i in 0..n {
-        let other = keys[i];
-        if other != key {
-            keys[at] = other;
-            at += 1;
-        }
+    while at < n && keys[at] < key {
+        at += 1;
     }
     at
+}
+
+// Put a value in at a place among the first `n`; those from there on move up. Internal to this library's crates: their lists have
+// room for it.
+fn put_at(list: &mut [u64], n: usize, at: usize, value: u64)
+    requires { ⌜ (n < length (now list)) × (at ≤ n) ⌝ }
+    ensures { λ _. ⌜ now (list .exit) ≡ overwrite (now (list .entry)) 0 (putAt at value (take n (now (list .entry)))) ⌝ }
+{
+    let mut i = n;
+    while at < i {
+        list[i] = list[i - 1];
+        i -= 1;
+    }
+    list[at] = value;
+}
+
+// Take the value at a place out of the first `n`; those above it move down. Internal to this library's crates: their lists have so
+// many values.
+fn remove_at(list: &mut [u64], n: usize, at: usize)
+    requires { ⌜ (n ≤ length (now list)) × (at < n) ⌝ }
+    ensures { λ _. ⌜ now (list .exit) ≡ overwrite (now (list .entry)) 0 (removeAt at (take n (now (list .entry)))) ⌝ }
+{
+    for i in at + 1..n {
+        list[i - 1] = list[i];
+    }
+}
+
+// Put a key into its place among the first `n` of `keys`, which rise, and its tag into the same place among the first `n` of `tags`. Internal to
+// this library's crates: their lists have room for it.
+pub fn put_in(keys: &mut [u64], tags: &mut [u64], n: usize, key: u64, tag: u64)
+    requires { ⌜ (n < length (now keys)) × (n < length (now tags)) × Rising (take n (now keys)) ⌝ }
+    ensures { λ _. ⌜ now (keys .exit) ≡ overwrite (now (keys .entry)) 0 (putAt (placeOf key (take n (now (keys .entry)))) key (take n (now (keys .entry)))) ⌝ }
+    ensures { λ _. ⌜ now (tags .exit) ≡ overwrite (now (tags .entry)) 0 (putAt (placeOf key (take n (now (keys .entry)))) tag (take n (now (tags .entry)))) ⌝ }
+{
+    let at = place_of(keys, n, key);
+    put_at(keys, n, at, key);
+    put_at(tags, n, at, tag);
+}
+
+// Take a key out of the first `n` of `keys`, which rise, and its tag out of the first `n` of `tags`. Internal to this library's crates: the key is
+// among these.
+pub fn take_out(keys: &mut [u64], tags: &mut [u64], n: usize, key: u64)
+    requires { ⌜ (n ≤ length (now keys)) × (n ≤ length (now tags)) × Rising (take n (now keys)) × (member key (take n (now keys)) ≡ true) ⌝ }
+    ensures { λ _. ⌜ now (keys .exit) ≡ overwrite (now (keys .entry)) 0 (removeAt (placeOf key (take n (now (keys .entry)))) (take n (now (keys .entry)))) ⌝ }
+    ensures { λ _. ⌜ now (tags .exit) ≡ overwrite (now (tags .entry)) 0 (removeAt (placeOf key (take n (now (keys .entry)))) (take n (now (tags .entry)))) ⌝ }
+{
+    let at = place_of(keys, n, key);
+    remove_at(keys, n, at);
+    remove_at(tags, n, at);
 }

@@ -9,9 +9,9 @@ use borrow.Author.Tests.{eq-eqb, ne-eqb}
 use Rattle.table.specs.Table.{contentsOf}
 use Rattle.table_limits.specs.Lengths.{slotsFor}
 use Rattle.table_judge.specs.Judge.{isSound}
+use Rattle.table.specs.Contents.{keysIn}
 use Rattle.table_least.specs.LeastKey.{leastWithin}
 use Rattle.call_replies.specs.Replies.{steppedOf}
-use Rattle.call_replies.specs.declared.Refusal.{Refusal}
 use Rattle.call_replies.specs.declared.Refusal.the-variants.{WrongLength, NotSound}
 use Rattle.call_replies.specs.declared.Stepped.{Stepped}
 use Rattle.call_replies.specs.declared.Stepped.the-variants.{Key, End, Refused}
@@ -60,7 +60,7 @@ module _ (words : List ℕ) (next high : ℕ) (done : Bool) where
       unfolding stepReply stepPlace
       was-done e = (rw (taken-up, e), rw (taken-up, e))
 
-      module _ (left : done ≡ false) (key : ℕ) (found : key ≡ leastWithin next high (contentsOf (slotsFor (length words)) words .keys)) where
+      module _ (left : done ≡ false) (key : ℕ) (found : key ≡ leastWithin next high (keysIn (contentsOf (slotsFor (length words)) words))) where
         key-sought : sought words (placeFrom next high) ≡ key
         unfolding sought shown
         key-sought = sym found

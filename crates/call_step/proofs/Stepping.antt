@@ -11,7 +11,7 @@ use borrow.Author.Tests.{eq-eqb, ne-eqb, eqb-true, eqb-false}
 use Rattle.lists.specs.Lists.{All, lies}
 use Rattle.lists.proofs.Tests.{by-test, lies-when}
 use Rattle.lists.proofs.Keep.{all-map, keep-all}
-use Rattle.table.specs.Contents.{IsKey, Valid}
+use Rattle.table.specs.Contents.{IsKey, Valid, keysIn}
 use Rattle.table.proofs.Soundness.{WordSized, sound-valid}
 use Rattle.table_limits.specs.Lengths.{slotsFor}
 use Rattle.table_judge.specs.Judge.{isSound}
@@ -83,29 +83,29 @@ module _ (words : List ℕ) (sized : WordSized words) (passes : isSound words �
   shown-valid = sound-valid (slotsFor (length words)) words (passed-with words passes) sized
 
   module _ (next high : ℕ) where
-    none-sought : within next high (shown words .keys) ≡ [] → sought words (placeFrom next high) ≡ 0
+    none-sought : within next high (keysIn (shown words)) ≡ [] → sought words (placeFrom next high) ≡ 0
     unfolding sought
-    none-sought e = least-none next high (shown words .keys) e
+    none-sought e = least-none next high (keysIn (shown words)) e
 
-    module _ (k : ℕ) (rest : List ℕ) (starts : within next high (shown words .keys) ≡ k ∷ rest) where
+    module _ (k : ℕ) (rest : List ℕ) (starts : within next high (keysIn (shown words)) ≡ k ∷ rest) where
       first-sought : sought words (placeFrom next high) ≡ k
       unfolding sought
-      first-sought = least-first next high (shown words .keys) k rest starts
+      first-sought = least-first next high (keysIn (shown words)) k rest starts
 
       all-keys : All IsKey (k ∷ rest)
-      all-keys = within-all next high (shown words .keys) k rest starts IsKey (shown-valid .keys-right)
+      all-keys = within-all next high (keysIn (shown words)) k rest starts IsKey (shown-valid .keys-right)
 
       no-zero : k ≢ 0
       no-zero e = omega (arith, all-keys .0 .0)
 
       none-left : k ≡ greatestKey → rest ≡ []
-      none-left e = none-above k rest e (above next high (shown words .keys) k rest starts (shown-valid .keys-rise)) (all-keys .1)
+      none-left e = none-above k rest e (above next high (keysIn (shown words)) k rest starts (shown-valid .keys-rise)) (all-keys .1)
 
-      rest-next : within (k + 1) high (shown words .keys) ≡ rest
-      rest-next = within-after next high (shown words .keys) k rest starts (shown-valid .keys-rise)
+      rest-next : within (k + 1) high (keysIn (shown words)) ≡ rest
+      rest-next = within-after next high (keysIn (shown words)) k rest starts (shown-valid .keys-rise)
 
   -- the steps from a place, by the keys that are left of its range
-  steps-through : (n m next high : ℕ) → n ≤ m → (left : List ℕ) → within next high (shown words .keys) ≡ left
+  steps-through : (n m next high : ℕ) → n ≤ m → (left : List ℕ) → within next high (keysIn (shown words)) ≡ left
       → stepsFrom words n (placeFrom next high) ≡ take n (map keyReply left ++ replicate m endReply)
   steps-through zero m next high h left e = refl
   steps-through (suc n) m next high h [] e =
@@ -129,19 +129,19 @@ module _ (words : List ℕ) (sized : WordSized words) (passes : isSound words �
       ∙ steps-through n m (k + 1) high (omega arith) rest (rest-next next high k rest e)))
 
   -- "A range may also be had key by key": steps from low to high yield what a range from low to high writes, then end for ever.
-  pub steps-are-the-range : (low high n : ℕ) → stepsFrom words n (placeFrom low high) ≡ keysThenEnd (within low high (shown words .keys)) n
+  pub steps-are-the-range : (low high n : ℕ) → stepsFrom words n (placeFrom low high) ≡ keysThenEnd (within low high (keysIn (shown words))) n
   unfolding keysThenEnd
-  steps-are-the-range low high n = steps-through n n low high (omega arith) (within low high (shown words .keys)) refl
+  steps-are-the-range low high n = steps-through n n low high (omega arith) (within low high (keysIn (shown words))) refl
 
   -- every key lies in the whole library's range
-  whole-range : within 0 greatestKey (shown words .keys) ≡ shown words .keys
+  whole-range : within 0 greatestKey (keysIn (shown words)) ≡ keysIn (shown words)
   unfolding within
   whole-range =
-      keep-all (lies 0 greatestKey) (shown words .keys)
-      (all-map IsKey (λ k. lies 0 greatestKey k ≡ true) (λ k h. lies-when 0 greatestKey k (omega arith) (omega arith)) (shown words .keys) (shown-valid .keys-right))
+      keep-all (lies 0 greatestKey) (keysIn (shown words))
+      (all-map IsKey (λ k. lies 0 greatestKey k ≡ true) (λ k h. lies-when 0 greatestKey k (omega arith) (omega arith)) (keysIn (shown words)) (shown-valid .keys-right))
 
   -- "The place for the whole library": every held key, then end for ever.
-  pub whole-steps-through-all : (n : ℕ) → stepsFrom words n wholePlace ≡ keysThenEnd (shown words .keys) n
+  pub whole-steps-through-all : (n : ℕ) → stepsFrom words n wholePlace ≡ keysThenEnd (keysIn (shown words)) n
   whole-steps-through-all n = steps-are-the-range 0 greatestKey n ∙ ap (λ (ks : List ℕ). keysThenEnd ks n) whole-range
 
 -- "The spent place": end for ever.

@@ -4,6 +4,7 @@ use mathlib.Core.List.{List, [], _∷_, _++_, map}
 use Prim.Native.Nat.{ℕ, zero, suc, _+_, _-_, _^_}
 use lib.Dec.{eqb}
 use lib.ListN.{take, replicate}
+use Rattle.table.specs.Contents.{keysIn}
 use Rattle.table_least.specs.LeastKey.{leastWithin}
 use Rattle.call_replies.specs.Replies.{Reply, lowest, unlessRefused}
 use Rattle.call_meaning.specs.Reasons.{wrongLength, notSound, shown}
@@ -46,7 +47,7 @@ stepRefusal words = lowest (wrongLength words ∷ notSound words ∷ [])
 
 -- "the least held key from next to high"; zero where there is none.
 unfoldable pub sought : List ℕ → Place → ℕ
-sought words place = leastWithin (place .next) (place .high) (shown words .keys)
+sought words place = leastWithin (place .next) (place .high) (keysIn (shown words))
 
 -- The reply of a step that found this key; "if there is none it .. answers end".
 unfoldable pub yielded : ℕ → Reply

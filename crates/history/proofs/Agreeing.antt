@@ -1,17 +1,19 @@
 -- Two books, tables or images agree when the others do. Assumes valid contents.
 use mathlib.Core.Bool.{true}
-use mathlib.Core.List.{List}
+use mathlib.Core.List.{List, map}
 use mathlib.Core.Path.{_≡_, refl, sym, ap, _∙_}
 use Prim.Native.Nat.{ℕ, _≤_}
 use native.Mathlib.Omega.{arith}
 use lib.ListN.{length}
 use borrow.Author.Tests.{ltb-false, le-ltb}
 use Rattle.lists.specs.Lists.{member}
+use Rattle.lists.proofs.Keep.{all-always, map-same}
 use Rattle.lists.proofs.Membership.{all-of-members}
 use Rattle.lists.proofs.Rising.{rising-unique}
 use Rattle.lists.proofs.Start.{starts-with}
 use Rattle.table.specs.Layout.{mostSlots}
-use Rattle.table.specs.Contents.{Contents, Valid}
+use Rattle.table.specs.Contents.{Contents, Valid, keysIn, measureIn}
+use Rattle.table.proofs.Entries.{entryAt, entries-by-keys}
 use Rattle.image.specs.Image.{imageOf}
 use Rattle.image.proofs.Reading.{image-unique}
 use Rattle.call_meaning.specs.Reasons.{outputTooShort, shown}
@@ -25,21 +27,37 @@ use Rattle.history.proofs.Refused.{writing-refused}
 
 -- ---- order and set
 pub same-agree : (c d : Contents) → c ≡ d → Agree c d
-same-agree c d e = (ap (λ (b : Contents). b .order) e, λ key. ap (λ (b : Contents). member key (b .keys)) e)
+same-agree c d e = (
+  ap (λ (b : Contents). b .order) e,
+  λ key. ap (λ (b : Contents). member key (keysIn b)) e,
+  λ key. ap (λ (b : Contents). measureIn (b .entries) key) e,
+)
+
+-- entries are told by their keys and the measures of these
+same-found : (c d : Contents) → Agree c d → (keys : List ℕ) → map (entryAt (c .entries)) keys ≡ map (entryAt (d .entries)) keys
+same-found c d agree keys =
+    let same : (key : ℕ) → entryAt (c .entries) key ≡ entryAt (d .entries) key = λ key. ap (λ m. record { key = key; measure = m }) (agree .2 key) in
+    map-same (entryAt (c .entries)) (entryAt (d .entries)) keys (all-always (λ key. entryAt (c .entries) key ≡ entryAt (d .entries) key) same keys)
 
 pub agree-same : (many several : ℕ) (c d : Contents) → Valid many c → Valid several d → Agree c d → c ≡ d
 agree-same many several c d valid right agree =
-    let same-keys : c .keys ≡ d .keys =
-    rising-unique (c .keys) (d .keys) (valid .keys-rise) (right .keys-rise)
-    (all-of-members (λ key. member key (d .keys) ≡ true) (c .keys) (λ key m. sym (agree .1 key) ∙ m))
-    (all-of-members (λ key. member key (c .keys) ≡ true) (d .keys) (λ key m. agree .1 key ∙ m))
+    let same-keys : keysIn c ≡ keysIn d =
+    rising-unique (keysIn c) (keysIn d) (valid .keys-rise) (right .keys-rise)
+    (all-of-members (λ key. member key (keysIn d) ≡ true) (keysIn c) (λ key m. sym (agree .1 key) ∙ m))
+    (all-of-members (λ key. member key (keysIn c) ≡ true) (keysIn d) (λ key m. agree .1 key ∙ m))
     in
-    λ i. record { order = agree .0 i; keys = same-keys i }
+    let same-entries : c .entries ≡ d .entries =
+    sym (entries-by-keys (c .entries) (valid .keys-rise))
+    ∙ same-found c d agree (keysIn c)
+    ∙ ap (map (entryAt (d .entries))) same-keys
+    ∙ entries-by-keys (d .entries) (right .keys-rise)
+    in
+    λ i. record { order = agree .0 i; entries = same-entries i }
 
 pub agree-as-lists : AgreeAsLists
 agree-as-lists many several c d valid right = (
-  λ agree. let same = agree-same many several c d valid right agree in (agree .0, ap (λ (b : Contents). b .keys) same),
-  λ same. same-agree c d (λ i. record { order = same .0 i; keys = same .1 i }),
+  λ agree. let same = agree-same many several c d valid right agree in (agree .0, ap (λ (b : Contents). b .entries) same),
+  λ same. same-agree c d (λ i. record { order = same .0 i; entries = same .1 i }),
 )
 
 -- ---- images
@@ -51,6 +69,7 @@ within-most many c most valid =
       keys-right = valid .keys-right;
       keys-rise = valid .keys-rise;
       keys-fit = omega (arith, valid .keys-fit);
+      measures-right = valid .measures-right;
     }
 
 shown-written : (words lent : List ℕ) → writeRefusal words lent ≡ 0 → writtenImage words lent ≡ imageOf (shown words)

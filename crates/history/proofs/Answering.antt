@@ -1,22 +1,25 @@
--- Over a table that shows its book, each call replies, and leaves its output and its place, as the book says. Assumes such a table.
+-- Over a table that shows its book, each call replies, and leaves its output, its place and its lines, as the book says. Assumes such a
+-- table.
 use mathlib.Core.Bool.{Bool, true, false, cond}
 use mathlib.Core.List.{List, []}
 use mathlib.Core.Path.{_≡_, refl, sym, ap, ap₂}
 use Prim.Native.Nat.{ℕ}
 use lib.Dec.{eqb}
+use lib.IntN.{ℤ}
 use lib.ListN.{getD}
 use Rattle.lists.proofs.Tests.{by-test}
 use Rattle.lists.proofs.Keep.{all-always, map-same}
-use Rattle.table.specs.Contents.{Contents}
+use Rattle.measure.specs.Measure.{Measure}
+use Rattle.table.specs.Contents.{Contents, keysIn}
 use Rattle.table_least.specs.LeastKey.{leastWithin}
 use Rattle.call_replies.specs.Replies.{Reply, unlessRefused}
-use Rattle.call_meaning.specs.Calls.{grown, setUpReply, loadReply, buildReply, insertReply, deleteReply, lookupReply, rangeReply, rangeOutput, writeReply, writeOutput, readReply}
+use Rattle.call_meaning.specs.Calls.{grown, setUpReply, loadReply, buildReply, insertReply, deleteReply, lookupReply, lookupCorrection, rangeReply, rangeOutput, writeReply, writeOutput, readReply}
 use Rattle.call_step.specs.Steps.{endReply, yielded, sought, stepReply, stepPlace}
 use Rattle.call_step.specs.declared.Place.{Place}
 use Rattle.call_batch.specs.Batch.{heldBy, rankBy, answered, batchReply, batchAfter}
 use Rattle.call_batch.specs.declared.Question.{Question}
 use Rattle.history.specs.Call.{Call, setUp, build, reading, insert, delete, lookup, range, writing, step, load, batch, reply, output}
-use Rattle.history.specs.Book.{refusalBy, replyBy, outputBy, placeBy, lineBy, linesBy}
+use Rattle.history.specs.Book.{refusalBy, replyBy, correctionBy, outputBy, placeBy, lineBy, linesBy}
 use Rattle.history.specs.Theorems.{Answers}
 use Rattle.call_replies.proofs.Refusals.{both-same}
 use Rattle.call_meaning.proofs.Shows.{Shows}
@@ -30,7 +33,7 @@ step-said false key = by-test (eqb key 0) (λ e. rw e) (λ e. rw e)
 
 module _ (many : ℕ) (words : List ℕ) (book : Contents) (table : Shows many words book) where
   -- ---- replies
-  key-sought : (place : Place) → sought words place ≡ leastWithin (place .next) (place .high) (book .keys)
+  key-sought : (place : Place) → sought words place ≡ leastWithin (place .next) (place .high) (keysIn book)
   unfolding sought
   key-sought place = rw (table .holds)
 
@@ -38,7 +41,7 @@ module _ (many : ℕ) (words : List ℕ) (book : Contents) (table : Shows many w
   unfolding replyBy refusalBy stepReply
   step-replies place =
       rw (step-accepted many words book table, key-sought place)
-      (step-said (place .done) (leastWithin (place .next) (place .high) (book .keys)))
+      (step-said (place .done) (leastWithin (place .next) (place .high) (keysIn book)))
 
   set-up-replies : (order : ℕ) → setUpReply words order ≡ replyBy many (setUp order) book
   unfolding setUpReply replyBy
@@ -48,17 +51,18 @@ module _ (many : ℕ) (words : List ℕ) (book : Contents) (table : Shows many w
   unfolding loadReply replyBy
   load-replies order seed count = rw (load-refused many words book table order seed count, both-same)
 
-  build-replies : (order : ℕ) (list : List ℕ) → buildReply words order list ≡ replyBy many (build order list) book
+  build-replies : (order : ℕ) (list lengths : List ℕ) (corrections : List ℤ)
+      → buildReply words order list lengths corrections ≡ replyBy many (build order list lengths corrections) book
   unfolding buildReply replyBy
-  build-replies order list = rw (build-refused many words book table order list, both-same)
+  build-replies order list lengths corrections = rw (build-refused many words book table order list lengths corrections, both-same)
 
   reading-replies : (bytes : List ℕ) → readReply words bytes ≡ replyBy many (reading bytes) book
   unfolding readReply replyBy
   reading-replies bytes = rw (reading-refused many words book table bytes, both-same)
 
-  insert-replies : (key : ℕ) → insertReply words key ≡ replyBy many (insert key) book
+  insert-replies : (key : ℕ) (measure : Measure) → insertReply words key measure ≡ replyBy many (insert key measure) book
   unfolding insertReply replyBy grown
-  insert-replies key = rw (insert-refused many words book table key, table .holds)
+  insert-replies key measure = rw (insert-refused many words book table key measure, table .holds)
 
   delete-replies : (key : ℕ) → deleteReply words key ≡ replyBy many (delete key) book
   unfolding deleteReply replyBy
@@ -67,6 +71,10 @@ module _ (many : ℕ) (words : List ℕ) (book : Contents) (table : Shows many w
   lookup-replies : (key : ℕ) → lookupReply words key ≡ replyBy many (lookup key) book
   unfolding lookupReply replyBy
   lookup-replies key = rw (lookup-refused many words book table key, table .holds)
+
+  corrections-by-book : (key : ℕ) → lookupCorrection words key ≡ correctionBy many key book
+  unfolding lookupCorrection correctionBy
+  corrections-by-book key = rw (lookup-refused many words book table key, table .holds)
 
   range-replies : (low high : ℕ) (lent : List ℕ) → rangeReply words low high lent ≡ replyBy many (range low high lent) book
   unfolding rangeReply replyBy
@@ -82,9 +90,9 @@ module _ (many : ℕ) (words : List ℕ) (book : Contents) (table : Shows many w
 
   replies-by-book : (call : Call) → reply call words ≡ replyBy many call book
   replies-by-book (setUp order) = set-up-replies order
-  replies-by-book (build order list) = build-replies order list
+  replies-by-book (build order list lengths corrections) = build-replies order list lengths corrections
   replies-by-book (reading bytes) = reading-replies bytes
-  replies-by-book (insert key) = insert-replies key
+  replies-by-book (insert key measure) = insert-replies key measure
   replies-by-book (delete key) = delete-replies key
   replies-by-book (lookup key) = lookup-replies key
   replies-by-book (range low high lent) = range-replies low high lent
@@ -108,9 +116,9 @@ module _ (many : ℕ) (words : List ℕ) (book : Contents) (table : Shows many w
   outputs-by-book : (call : Call) → output call words ≡ outputBy many call book
   unfolding outputBy
   outputs-by-book (setUp order) = same-output (setUp order) []
-  outputs-by-book (build order list) = same-output (build order list) []
+  outputs-by-book (build order list lengths corrections) = same-output (build order list lengths corrections) []
   outputs-by-book (reading bytes) = same-output (reading bytes) []
-  outputs-by-book (insert key) = same-output (insert key) []
+  outputs-by-book (insert key measure) = same-output (insert key measure) []
   outputs-by-book (delete key) = same-output (delete key) []
   outputs-by-book (lookup key) = same-output (lookup key) []
   outputs-by-book (range low high lent) = range-fills low high lent
@@ -136,4 +144,11 @@ module _ (many : ℕ) (words : List ℕ) (book : Contents) (table : Shows many w
       (map-same (answered words) (lineBy many book) questions (all-always (λ q. answered words q ≡ lineBy many book q) line-by-book questions))
 
   pub answers : Answers many words book
-  answers = record { replies = replies-by-book; outputs = outputs-by-book; places = places-by-book; lines = lines-by-book }
+  answers =
+      record {
+        replies = replies-by-book;
+        corrections = corrections-by-book;
+        outputs = outputs-by-book;
+        places = places-by-book;
+        lines = lines-by-book;
+      }

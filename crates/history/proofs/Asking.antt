@@ -13,9 +13,9 @@ use Rattle.history.specs.Theorems.{AskingChangesNothing}
 
 leaves-words : (call : Call) → asks call ≡ true → (words : List ℕ) → run call words ≡ words
 leaves-words (setUp order) e words = absurd (true-or-false false e refl)
-leaves-words (build order list) e words = absurd (true-or-false false e refl)
+leaves-words (build order list lengths corrections) e words = absurd (true-or-false false e refl)
 leaves-words (reading bytes) e words = absurd (true-or-false false e refl)
-leaves-words (insert key) e words = absurd (true-or-false false e refl)
+leaves-words (insert key measure) e words = absurd (true-or-false false e refl)
 leaves-words (delete key) e words = absurd (true-or-false false e refl)
 leaves-words (lookup key) e words = refl
 leaves-words (range low high output) e words = refl
@@ -27,9 +27,9 @@ leaves-words (batch questions) e words = refl
 leaves-book : (call : Call) → asks call ≡ true → (many : ℕ) (book : Contents) → note many call book ≡ book
 unfolding note
 leaves-book (setUp order) e many book = absurd (true-or-false false e refl)
-leaves-book (build order list) e many book = absurd (true-or-false false e refl)
+leaves-book (build order list lengths corrections) e many book = absurd (true-or-false false e refl)
 leaves-book (reading bytes) e many book = absurd (true-or-false false e refl)
-leaves-book (insert key) e many book = absurd (true-or-false false e refl)
+leaves-book (insert key measure) e many book = absurd (true-or-false false e refl)
 leaves-book (delete key) e many book = absurd (true-or-false false e refl)
 leaves-book (lookup key) e many book = both-same (refusalBy many (lookup key) book) book
 leaves-book (range low high output) e many book = both-same (refusalBy many (range low high output) book) book

@@ -1,23 +1,28 @@
 -- A call over the fresh table of a book leaves the fresh table of the book in which it is noted, and that book is valid again. Assumes a
 -- valid book, and inputs that can be lent.
-use mathlib.Core.Bool.{false}
+use mathlib.Core.Bool.{true, false}
 use mathlib.Core.List.{List}
 use mathlib.Core.Logic.{_≢_}
-use mathlib.Core.Path.{_≡_, refl, sym, ap, _∙_}
+use mathlib.Core.Path.{_≡_, refl, sym, ap, _∙_, subst}
 use Prim.Native.Nat.{ℕ, _^_, _≤_, _<_}
 use native.Mathlib.Omega.{arith}
-use lib.ListN.{length}
+use lib.Dec.{eqb}
+use lib.IntN.{ℤ}
+use lib.ListN.{length, length-map}
 use borrow.Author.Tests.{not-false, eqb-false, ltb-false}
-use Rattle.lists.specs.Lists.{All}
-use Rattle.lists.proofs.Keep.{all-both}
-use Rattle.table.specs.Contents.{Contents, Valid, newOrder, risingKeys}
+use Rattle.lists.specs.Lists.{All, Rising, every}
+use Rattle.lists.proofs.Tests.{and-right}
+use Rattle.lists.proofs.Keep.{all-both, every-says}
+use Rattle.measure.specs.Measure.{Measure, isMeasure, measuresBeside}
+use Rattle.table.specs.Contents.{Entry, Contents, Valid, IsKey, newOrder, risingKeys, entryKeys, keysIn}
+use Rattle.table.proofs.Entries.{with-keys, with-right}
 use Rattle.table.specs.Table.{fresh}
 use Rattle.image.specs.Image.{isImage, readImage}
 use Rattle.image.proofs.Judging.{is-image-valid}
 use Rattle.table_limits.specs.Lengths.{slotsFor}
 use Rattle.call_sets.specs.Sets.{joined}
 use Rattle.call_replies.specs.Replies.{unlessRefused}
-use Rattle.call_meaning.specs.Reasons.{wrongOrder, zeroKey, lowAboveHigh, notRising, notAnImage, outputTooShort}
+use Rattle.call_meaning.specs.Reasons.{wrongOrder, zeroKey, lowAboveHigh, notRising, notAnImage, outputTooShort, wrongMeasure, wrongMeasures}
 use Rattle.call_meaning.specs.Calls.{rewritten, grown, shrunk, setUpAfter, loadAfter, buildAfter, readAfter, insertAfter, deleteAfter}
 use Rattle.call_changes.proofs.Sets.{joined-length, joined-valid, without-valid}
 use Rattle.call_changes.proofs.Loading.{blank-valid, loaded-valid}
@@ -43,9 +48,11 @@ module _ (many : ℕ) (words : List ℕ) (book : Contents) (table : Shows many w
   pub run-notes : (call : Call) → run call words ≡ fresh many (note many call book)
   unfolding note setUpAfter loadAfter buildAfter readAfter insertAfter deleteAfter grown shrunk
   run-notes (setUp order) = written _ _ (blank order) _ (set-up-refused many words book table order) refl
-  run-notes (build order list) = written _ _ (listed order list) _ (build-refused many words book table order list) refl
+  run-notes (build order list lengths corrections) =
+      written _ _ (listed order list lengths corrections) _ (build-refused many words book table order list lengths corrections) refl
   run-notes (reading bytes) = written _ _ (readImage bytes) _ (reading-refused many words book table bytes) refl
-  run-notes (insert key) = written _ _ (grown words key) _ (insert-refused many words book table key) (ap (withKey key) (table .holds))
+  run-notes (insert key measure) =
+      written _ _ (grown words key measure) _ (insert-refused many words book table key measure) (ap (withKey key measure) (table .holds))
   run-notes (delete key) = written _ _ (shrunk words key) _ (delete-refused many words book table key) (ap (withoutKey key) (table .holds))
   run-notes (lookup key) = unwritten (lookup key)
   run-notes (range low high lent) = unwritten (range low high lent)
@@ -62,15 +69,22 @@ module _ (many : ℕ) (book : Contents) (valid : Valid many book) where
   abbrev Spared : Call → Type 0
   Spared call = All (λ r. r .applies ≡ false) (reasons many call book)
 
-  listed-valid : (order : ℕ) (list : List ℕ) → Lent (build order list) → Spared (build order list) → Valid many (listed order list)
-  unfolding newOrder wrongOrder notRising
-  listed-valid order list lent spared =
+  listed-valid : (order : ℕ) (list lengths : List ℕ) (corrections : List ℤ) → Lent (build order list lengths corrections)
+      → Spared (build order list lengths corrections) → Valid many (listed order list lengths corrections)
+  unfolding newOrder wrongOrder notRising wrongMeasures
+  listed-valid order list lengths corrections lent spared =
       let rising = rising-says list (not-false (risingKeys list) (spared .1 .0)) in
+      let measures = measuresBeside lengths corrections in
+      let same = sym (with-keys list measures) in
+      let tested : every isMeasure measures ≡ true =
+      and-right (eqb (length corrections) (length list)) _ (and-right (eqb (length lengths) (length list)) _ (not-false _ (spared .1 .1 .0)))
+      in
       record {
         order-right = not-false (newOrder order) (spared .0);
-        keys-right = all-both (λ k. 1 ≤ k) (λ k. k < 2 ^ 64) list (rising .1) (lent .1);
-        keys-rise = rising .0;
-        keys-fit = ltb-false many (length list) (spared .1 .1 .0);
+        keys-right = subst (All IsKey) same (all-both (λ k. 1 ≤ k) (λ k. k < 2 ^ 64) list (rising .1) (lent .1));
+        keys-rise = subst Rising same (rising .0);
+        keys-fit = omega (arith, ap length same, ltb-false many (length list) (spared .1 .1 .1 .0));
+        measures-right = with-right list measures (every-says isMeasure measures tested);
       }
 
   read-valid : (bytes : List ℕ) → Lent (reading bytes) → Spared (reading bytes) → Valid many (readImage bytes)
@@ -81,22 +95,31 @@ module _ (many : ℕ) (book : Contents) (valid : Valid many book) where
         order-right = image .order-right;
         keys-right = image .keys-right;
         keys-rise = image .keys-rise;
-        keys-fit = ltb-false many (length (readImage bytes .keys)) (spared .1 .0);
+        keys-fit = ltb-false many (length (keysIn (readImage bytes))) (spared .1 .0);
+        measures-right = image .measures-right;
       }
 
-  key-joins : (key : ℕ) → Lent (insert key) → Spared (insert key) → Valid many (withKey key book)
-  unfolding zeroKey
-  key-joins key lent spared =
+  key-joins : (key : ℕ) (measure : Measure) → Lent (insert key measure) → Spared (insert key measure) → Valid many (withKey key measure book)
+  unfolding zeroKey wrongMeasure
+  key-joins key measure lent spared =
       let some : key ≢ 0 = eqb-false key 0 (spared .0) in
-      joined-valid key many book valid (omega arith, lent) (spared .1 .0)
-      (omega (arith, joined-length key (book .keys), ltb-false many (length (joined key (book .keys))) (spared .1 .1 .0)))
+      let entry : Entry = record { key = key; measure = measure } in
+      let more = joined entry (book .entries) in
+      joined-valid entry many book valid (omega arith, lent .0) (not-false (isMeasure measure) (spared .1 .0)) (spared .1 .1 .0)
+      (omega (
+        arith,
+        joined-length entry (book .entries),
+        length-map more (λ e. e .key),
+        length-map (book .entries) (λ e. e .key),
+        ltb-false many (length (entryKeys more)) (spared .1 .1 .1 .0),
+      ))
 
   numbered : (call : Call) → All (λ r. 1 ≤ r .number) (reasons many call book)
-  unfolding wrongOrder notRising notAnImage zeroKey lowAboveHigh outputTooShort
+  unfolding wrongOrder notRising notAnImage zeroKey lowAboveHigh outputTooShort wrongMeasure wrongMeasures
   numbered (setUp order) = omega arith
-  numbered (build order list) = omega arith
+  numbered (build order list lengths corrections) = omega arith
   numbered (reading bytes) = omega arith
-  numbered (insert key) = omega arith
+  numbered (insert key measure) = omega arith
   numbered (delete key) = omega arith
   numbered (lookup key) = omega arith
   numbered (range low high output) = omega arith
@@ -108,9 +131,9 @@ module _ (many : ℕ) (book : Contents) (valid : Valid many book) where
   entered-valid : (call : Call) → Lent call → Spared call → Valid many (entered many call book)
   unfolding wrongOrder
   entered-valid (setUp order) lent spared = blank-valid many order (not-false (newOrder order) (spared .0))
-  entered-valid (build order list) lent spared = listed-valid order list lent spared
+  entered-valid (build order list lengths corrections) lent spared = listed-valid order list lengths corrections lent spared
   entered-valid (reading bytes) lent spared = read-valid bytes lent spared
-  entered-valid (insert key) lent spared = key-joins key lent spared
+  entered-valid (insert key measure) lent spared = key-joins key measure lent spared
   entered-valid (delete key) lent spared = without-valid key many book valid
   entered-valid (lookup key) lent spared = valid
   entered-valid (range low high output) lent spared = valid

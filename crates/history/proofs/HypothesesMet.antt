@@ -14,10 +14,11 @@ every-call =
     record {
       words = λ n small. small;
       bytes = λ b small. small;
+      corrections = λ z low high. (low, high);
       set-ups = λ order word. word;
-      builds = λ order list word sized. (word, sized);
+      builds = λ order list lengths corrections word sized long signed. (word, sized, long, signed);
       readings = λ image small. small;
-      inserts = λ key word. word;
+      inserts = λ key measure word long signed. (word, long, signed);
       deletes = λ key word. word;
       lookups = λ key word. word;
       ranges = λ low high output first second sized. (first, second, sized);

@@ -3,22 +3,24 @@ use mathlib.Core.Bool.{true, false}
 use mathlib.Core.List.{List, [], _∷_, _++_, map, flatMap}
 use mathlib.Core.Logic.{_≢_}
 use mathlib.Core.Path.{_≡_, refl, sym, ap, _∙_}
-use Prim.Native.Nat.{ℕ}
+use Prim.Native.Nat.{ℕ, suc}
 use native.Mathlib.Omega.{arith}
 use lib.Dec.{eqb}
-use lib.ListN.{length}
+use lib.ListN.{length, length-map}
+use lib.Signed.{leZ-yes}
 use borrow.Author.Tests.{not-false, eqb-true, eqb-false, ne-eqb, lt-ltb, le-ltb}
 use Rattle.lists.specs.Lists.{All, member}
 use Rattle.lists.proofs.Tests.{by-test}
 use Rattle.lists.proofs.Keep.{all-append}
-use Rattle.table.specs.Contents.{Contents, Valid, IsKey, newOrder}
+use Rattle.measure.proofs.Stored.{unmeasured-right}
+use Rattle.table.specs.Contents.{Contents, Valid, IsKey, newOrder, entryKeys, keysIn}
 use Rattle.table.specs.Table.{fresh}
 use Rattle.call_sets.specs.Sets.{joined}
-use Rattle.call_sets.specs.Load.{Operation, inserting, deleting, lookingUp, operations, done, loaded}
+use Rattle.call_sets.specs.Load.{Operation, inserting, deleting, lookingUp, operations, plain, done, loaded}
 use Rattle.call_changes.specs.Done.{withDone}
 use Rattle.call_changes.proofs.Sets.{joined-length}
 use Rattle.call_changes.proofs.Loading.{keyOf, AboutKeys, withAllDone, done-valid, operations-keys, blank-valid}
-use Rattle.call_meaning.specs.Reasons.{wrongLength, wrongOrder, zeroKey}
+use Rattle.call_meaning.specs.Reasons.{wrongLength, wrongOrder, zeroKey, wrongMeasure}
 use Rattle.call_meaning.specs.Calls.{loadRefusal}
 use Rattle.call_replies.proofs.Refusals.{none-applies}
 use Rattle.table_limits.specs.Lengths.{slotsFor}
@@ -33,23 +35,24 @@ module _ (many : ℕ) where
   -- an operation is noted as the rules of a load say, "a refused one counts as done"
   note-operation : (operation : Operation) (book : Contents) → IsKey (keyOf operation) → Valid many book
       → note many (callFor operation) book ≡ withDone many operation book
-  unfolding note refusalBy zeroKey done
+  unfolding note refusalBy zeroKey wrongMeasure done
   note-operation (inserting key) book right valid =
       let nonzero : eqb key 0 ≡ false = ne-eqb key 0 (λ e. omega arith) in
-      let grown = joined key (book .keys) in
-      by-test (member key (book .keys))
-      (λ held. rw (nonzero, held))
+      let more = joined (plain key) (book .entries) in
+      let size : length (entryKeys more) ≡ suc (length (book .entries)) = length-map more (λ e. e .key) ∙ joined-length (plain key) (book .entries) in
+      by-test (member key (keysIn book))
+      (λ held. rw (nonzero, unmeasured-right, held))
       (λ absent.
-      by-test (eqb (length (book .keys)) many)
+      by-test (eqb (length (book .entries)) many)
       (λ e.
-      let full = eqb-true (length (book .keys)) many e in
-      rw (nonzero, absent, e, lt-ltb many (length grown) (omega (arith, joined-length key (book .keys)))))
+      let full = eqb-true (length (book .entries)) many e in
+      rw (nonzero, unmeasured-right, absent, e, lt-ltb many (length (entryKeys more)) (omega arith)))
       (λ e.
-      let apart : length (book .keys) ≢ many = eqb-false (length (book .keys)) many e in
-      rw (nonzero, absent, e, le-ltb many (length grown) (omega (arith, joined-length key (book .keys), valid .keys-fit)))))
+      let apart : length (book .entries) ≢ many = eqb-false (length (book .entries)) many e in
+      rw (nonzero, unmeasured-right, absent, e, le-ltb many (length (entryKeys more)) (omega (arith, valid .keys-fit, length-map (book .entries) (λ e. e .key))))))
   note-operation (deleting key) book right valid =
       let nonzero : eqb key 0 ≡ false = ne-eqb key 0 (λ e. omega arith) in
-      by-test (member key (book .keys)) (λ held. rw (nonzero, held)) (λ absent. rw (nonzero, absent))
+      by-test (member key (keysIn book)) (λ held. rw (nonzero, held)) (λ absent. rw (nonzero, absent))
   note-operation (lookingUp key) book right valid = rw (ne-eqb key 0 (λ e. omega arith))
 
   note-operations : (ops : List Operation) (book : Contents) → AboutKeys ops → Valid many book
@@ -77,7 +80,7 @@ module _ (many : ℕ) where
 -- ---- the words
 operations-lent : (ops : List Operation) → AboutKeys ops → All Lent (map callFor ops)
 operations-lent [] right = tt
-operations-lent (inserting key ∷ ops) right = (right .0 .1, operations-lent ops (right .1))
+operations-lent (inserting key ∷ ops) right = ((right .0 .1, omega arith, (leZ-yes tt, leZ-yes tt)), operations-lent ops (right .1))
 operations-lent (deleting key ∷ ops) right = (right .0 .1, operations-lent ops (right .1))
 operations-lent (lookingUp key ∷ ops) right = (right .0 .1, operations-lent ops (right .1))
 
@@ -124,9 +127,9 @@ notes-append many (call ∷ calls) more book = notes-append many calls more (not
 -- a call is noted as the calls that it stands for
 stands-noted : (many : ℕ) (call : Call) (book : Contents) → notes many (standsFor call) book ≡ note many call book
 stands-noted many (setUp order) book = refl
-stands-noted many (build order list) book = refl
+stands-noted many (build order list lengths corrections) book = refl
 stands-noted many (reading bytes) book = refl
-stands-noted many (insert key) book = refl
+stands-noted many (insert key measure) book = refl
 stands-noted many (delete key) book = refl
 stands-noted many (lookup key) book = refl
 stands-noted many (range low high output) book = refl
@@ -148,9 +151,9 @@ spelled-noted many (call ∷ calls) book =
 
 stands-lent : (call : Call) → Lent call → All Lent (standsFor call)
 stands-lent (setUp order) lent = (lent, tt)
-stands-lent (build order list) lent = (lent, tt)
+stands-lent (build order list lengths corrections) lent = (lent, tt)
 stands-lent (reading bytes) lent = (lent, tt)
-stands-lent (insert key) lent = (lent, tt)
+stands-lent (insert key measure) lent = (lent, tt)
 stands-lent (delete key) lent = (lent, tt)
 stands-lent (lookup key) lent = (lent, tt)
 stands-lent (range low high output) lent = (lent, tt)
@@ -166,9 +169,9 @@ spelled-lent [] lent = tt
 spelled-lent (call ∷ calls) lent =
     all-append Lent (standsFor call) (spelledOut calls) (stands-lent call (lent .0)) (spelled-lent calls (lent .1))
 
-plain : (history : History) → (other : History) × (callsOf other ≡ spelledOut (callsOf history))
+without-loads : (history : History) → (other : History) × (callsOf other ≡ spelledOut (callsOf history))
 unfolding flatMap
-plain history = go (history .first) (history .accepted) (history .later) (history .lent)
+without-loads history = go (history .first) (history .accepted) (history .later) (history .lent)
   where
     go : (first : Opening) → Accepted first → (later : List Call) → All Lent (opened first ∷ later) → (other : History) × (callsOf other ≡ spelledOut (opened first ∷ later))
     go (bySetUp order) right later lent =
@@ -187,9 +190,9 @@ plain history = go (history .first) (history .accepted) (history .later) (histor
 pub loads-spelled-out : LoadsSpelledOut
 loads-spelled-out =
     record {
-      plain = plain;
+      plain = without-loads;
       table = λ many words history table.
-          let (other, e) = plain history in
+          let (other, e) = without-loads history in
           ap (λ (calls : List Call). runs calls words) (sym e)
           ∙ table-from-book many words other table .0
           ∙ ap (λ (calls : List Call). fresh many (bookOf many calls)) e

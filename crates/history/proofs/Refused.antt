@@ -2,6 +2,8 @@
 use mathlib.Core.List.{List}
 use mathlib.Core.Path.{_≡_}
 use Prim.Native.Nat.{ℕ}
+use lib.IntN.{ℤ}
+use Rattle.measure.specs.Measure.{Measure}
 use Rattle.table.specs.Contents.{Contents}
 use Rattle.call_meaning.specs.Reasons.{wrongLength, notSound, keyHeld, keyAbsent, tooManyKeys}
 use Rattle.call_meaning.specs.Calls.{grown, setUpRefusal, loadRefusal, buildRefusal, insertRefusal, deleteRefusal, lookupRefusal, rangeRefusal, writeRefusal, readRefusal}
@@ -21,17 +23,18 @@ module _ (many : ℕ) (words : List ℕ) (book : Contents) (table : Shows many w
   unfolding loadRefusal refusalBy wrongLength
   load-refused order seed count = rw (table .right)
 
-  pub build-refused : (order : ℕ) (list : List ℕ) → buildRefusal words order list ≡ refusalBy many (build order list) book
+  pub build-refused : (order : ℕ) (list lengths : List ℕ) (corrections : List ℤ)
+      → buildRefusal words order list lengths corrections ≡ refusalBy many (build order list lengths corrections) book
   unfolding buildRefusal refusalBy wrongLength tooManyKeys
-  build-refused order list = rw (table .right, table .slots)
+  build-refused order list lengths corrections = rw (table .right, table .slots)
 
   pub reading-refused : (bytes : List ℕ) → readRefusal words bytes ≡ refusalBy many (reading bytes) book
   unfolding readRefusal refusalBy wrongLength tooManyKeys
   reading-refused bytes = rw (table .right, table .slots)
 
-  pub insert-refused : (key : ℕ) → insertRefusal words key ≡ refusalBy many (insert key) book
+  pub insert-refused : (key : ℕ) (measure : Measure) → insertRefusal words key measure ≡ refusalBy many (insert key measure) book
   unfolding insertRefusal refusalBy wrongLength notSound keyHeld tooManyKeys grown
-  insert-refused key = rw (table .right, table .slots, table .sound, table .holds)
+  insert-refused key measure = rw (table .right, table .slots, table .sound, table .holds)
 
   pub delete-refused : (key : ℕ) → deleteRefusal words key ≡ refusalBy many (delete key) book
   unfolding deleteRefusal refusalBy wrongLength notSound keyAbsent

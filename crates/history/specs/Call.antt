@@ -3,8 +3,11 @@
 use mathlib.Core.Bool.{Bool, true, false, cond}
 use mathlib.Core.List.{List, [], _∷_, map, flatMap}
 use mathlib.Core.Path.{_≡_}
-use Prim.Native.Nat.{ℕ, _^_, _<_}
+use Prim.Native.Nat.{ℕ, _-_, _^_, _<_}
+use lib.IntN.{ℤ, pos, negℤ}
+use lib.Signed.{_≤ℤ_}
 use Rattle.lists.specs.Lists.{All}
+use Rattle.measure.specs.Measure.{Measure, unmeasured}
 use Rattle.table.specs.Contents.{newOrder}
 use Rattle.image.specs.Layout.{IsByte}
 use Rattle.call_sets.specs.Load.{Operation, inserting, deleting, lookingUp, operations}
@@ -17,12 +20,13 @@ use Rattle.call_batch.specs.declared.Question.{Question}
 
 -- "A history is a list of set-up, build, reading (of an image), insert, delete, lookup, range and writing (of one), refused calls
 -- included .. Each call brings its own inputs, whatever they hold, and its own output .. steps, and calls of document 02 that write no word
--- of this table, may come anywhere between" (01); of document 02 a load (N1) and a batch of lookups (N2).
+-- of this table, may come anywhere between" (01); of document 02 a load (N1) and a batch of lookups (N2). "Inserts, build lists and lookups
+-- carry" measures (N4): an insert its key's, a build list the lengths and the corrections beside it.
 pub data Call : Type 0 where
   setUp : (order : ℕ) → Call
-  build : (order : ℕ) → (list : List ℕ) → Call
+  build : (order : ℕ) → (list : List ℕ) → (lengths : List ℕ) → (corrections : List ℤ) → Call
   reading : (bytes : List ℕ) → Call
-  insert : (key : ℕ) → Call
+  insert : (key : ℕ) → (measure : Measure) → Call
   delete : (key : ℕ) → Call
   lookup : (key : ℕ) → Call
   range : (low : ℕ) → (high : ℕ) → (output : List ℕ) → Call
@@ -31,9 +35,13 @@ pub data Call : Type 0 where
   load : (order : ℕ) → (seed : ℕ) → (count : ℕ) → Call
   batch : (questions : List Question) → Call
 
--- What can be lent as a word; what can be lent as a byte is `IsByte`. Nothing more is asked of inputs.
+-- What can be lent as a word; what can be lent as a byte is `IsByte`.
 abbrev pub IsWord : ℕ → Type 0
 IsWord n = n < 2 ^ 64
+
+-- What can be lent as a correction: a signed 32-bit number, −2^31 to 2^31 − 1. Nothing more is asked of inputs.
+abbrev pub IsCorrection : ℤ → Type 0
+IsCorrection z = (negℤ (pos (2 ^ 31)) ≤ℤ z) × (z ≤ℤ pos (2 ^ 31 - 1))
 
 -- What can be lent as a line of a batch, its places whatever they hold.
 abbrev pub IsQuestion : Question → Type 0
@@ -42,9 +50,9 @@ IsQuestion q = IsWord (q .key) × IsWord (q .held) × IsWord (q .rank)
 -- What each call can be lent; a load "a 64-bit seed" and "a 16-bit count".
 abbrev pub Lent : Call → Type 0
 Lent (setUp order) = IsWord order
-Lent (build order list) = IsWord order × All IsWord list
+Lent (build order list lengths corrections) = IsWord order × All IsWord list × All IsWord lengths × All IsCorrection corrections
 Lent (reading bytes) = All IsByte bytes
-Lent (insert key) = IsWord key
+Lent (insert key measure) = IsWord key × IsWord (measure .length) × IsCorrection (measure .correction)
 Lent (delete key) = IsWord key
 Lent (lookup key) = IsWord key
 Lent (range low high output) = IsWord low × IsWord high × All IsWord output
@@ -56,9 +64,9 @@ Lent (batch questions) = All IsQuestion questions
 -- The table's words after a call: those that the call's contract names, and the same words where it writes none.
 abbrev pub run : Call → List ℕ → List ℕ
 run (setUp order) words = setUpAfter words order
-run (build order list) words = buildAfter words order list
+run (build order list lengths corrections) words = buildAfter words order list lengths corrections
 run (reading bytes) words = readAfter words bytes
-run (insert key) words = insertAfter words key
+run (insert key measure) words = insertAfter words key measure
 run (delete key) words = deleteAfter words key
 run (lookup key) words = words
 run (range low high output) words = words
@@ -67,12 +75,12 @@ run (step place) words = words
 run (load order seed count) words = loadAfter words order seed count
 run (batch questions) words = words
 
--- What a call over these words replies, as its contract says.
+-- What a call over these words replies, as its contract says. The correction of a lookup, which has a sign, has a claim of its own.
 abbrev pub reply : Call → List ℕ → Reply
 reply (setUp order) words = setUpReply words order
-reply (build order list) words = buildReply words order list
+reply (build order list lengths corrections) words = buildReply words order list lengths corrections
 reply (reading bytes) words = readReply words bytes
-reply (insert key) words = insertReply words key
+reply (insert key measure) words = insertReply words key measure
 reply (delete key) words = deleteReply words key
 reply (lookup key) words = lookupReply words key
 reply (range low high output) words = rangeReply words low high output
@@ -85,9 +93,9 @@ reply (batch questions) words = batchReply words questions
 -- lines are no such list; they have claims of their own.
 abbrev pub output : Call → List ℕ → List ℕ
 output (setUp order) words = []
-output (build order list) words = []
+output (build order list lengths corrections) words = []
 output (reading bytes) words = []
-output (insert key) words = []
+output (insert key measure) words = []
 output (delete key) words = []
 output (lookup key) words = []
 output (range low high lent) words = rangeOutput words low high lent
@@ -104,9 +112,9 @@ runs (call ∷ calls) words = runs calls (run call words)
 -- The calls that are lent the table to read it alone.
 abbrev pub asks : Call → Bool
 asks (setUp order) = false
-asks (build order list) = false
+asks (build order list lengths corrections) = false
 asks (reading bytes) = false
-asks (insert key) = false
+asks (insert key measure) = false
 asks (delete key) = false
 asks (lookup key) = true
 asks (range low high output) = true
@@ -116,9 +124,9 @@ asks (load order seed count) = false
 asks (batch questions) = true
 
 -- ---- loads
--- "insert", "delete", "lookup": the call that an operation of a load is.
+-- "insert", "delete", "lookup": the call that an operation of a load is; "a load's keys are unmeasured" (02, N4).
 abbrev pub callFor : Operation → Call
-callFor (inserting key) = insert key
+callFor (inserting key) = insert key unmeasured
 callFor (deleting key) = delete key
 callFor (lookingUp key) = lookup key
 
@@ -130,9 +138,9 @@ callsOfLoad order seed count = setUp order ∷ map callFor (operations seed coun
 -- and any other for itself.
 abbrev pub standsFor : Call → List Call
 standsFor (setUp order) = setUp order ∷ []
-standsFor (build order list) = build order list ∷ []
+standsFor (build order list lengths corrections) = build order list lengths corrections ∷ []
 standsFor (reading bytes) = reading bytes ∷ []
-standsFor (insert key) = insert key ∷ []
+standsFor (insert key measure) = insert key measure ∷ []
 standsFor (delete key) = delete key ∷ []
 standsFor (lookup key) = lookup key ∷ []
 standsFor (range low high output) = range low high output ∷ []

@@ -2,28 +2,35 @@
 -- 02 speak of meets them, so that no claim is empty. `proofs/HypothesesMet` proves it. Assumes nothing.
 use mathlib.Core.List.{List, _∷_}
 use mathlib.Core.Path.{_≡_}
-use Prim.Native.Nat.{ℕ, _^_, _<_, _≤_}
+use Prim.Native.Nat.{ℕ, _-_, _^_, _<_, _≤_}
+use lib.IntN.{ℤ, pos, negℤ}
+use lib.Signed.{_≤ℤ_}
 use lib.ListN.{length}
 use Rattle.lists.specs.Lists.{All}
+use Rattle.measure.specs.Measure.{Measure}
 use Rattle.table.specs.Layout.{mostSlots, leastOrder, greatestOrder, tableWords}
 use Rattle.image.specs.Layout.{IsByte}
 use Rattle.call_step.specs.declared.Place.{Place}
 use Rattle.call_batch.specs.declared.Question.{Question}
-use Rattle.history.specs.Call.{Call, setUp, build, reading, insert, delete, lookup, range, writing, step, load, batch, IsWord, Lent, History, callsOf}
+use Rattle.history.specs.Call.{Call, setUp, build, reading, insert, delete, lookup, range, writing, step, load, batch, IsWord, IsCorrection, Lent, History, callsOf}
 use Rattle.history.specs.Theorems.{Table}
 
--- "A table has M slots, M from 1 to 4,096, and lives in lent 64-bit words, 3 + 6·M of them": any words of that number are a table.
+-- "A table has M slots, M from 1 to 4,096, and lives in lent 64-bit words" (01); "the table is 3 + 8·M words" (02, N4): any words of that
+-- number are a table.
 abbrev pub EveryTable : Type 0
 EveryTable = (many : ℕ) (words : List ℕ) → 1 ≤ many → many ≤ mostSlots → length words ≡ tableWords many → Table many words
 
--- "Each call brings its own inputs, whatever they hold": every call with 64-bit numbers and bytes is a call of a history.
+-- "Each call brings its own inputs, whatever they hold": every call with 64-bit numbers, bytes and signed 32-bit corrections is a call of a
+-- history.
 pub record EveryCall : Type 0 where
   pub words : (n : ℕ) → n < 2 ^ 64 → IsWord n
   pub bytes : (b : ℕ) → b < 256 → IsByte b
+  pub corrections : (z : ℤ) → negℤ (pos (2 ^ 31)) ≤ℤ z → z ≤ℤ pos (2 ^ 31 - 1) → IsCorrection z
   pub set-ups : (order : ℕ) → IsWord order → Lent (setUp order)
-  pub builds : (order : ℕ) (list : List ℕ) → IsWord order → All IsWord list → Lent (build order list)
+  pub builds : (order : ℕ) (list lengths : List ℕ) (corrections : List ℤ) → IsWord order → All IsWord list → All IsWord lengths → All IsCorrection corrections
+      → Lent (build order list lengths corrections)
   pub readings : (image : List ℕ) → All IsByte image → Lent (reading image)
-  pub inserts : (key : ℕ) → IsWord key → Lent (insert key)
+  pub inserts : (key : ℕ) (measure : Measure) → IsWord key → IsWord (measure .length) → IsCorrection (measure .correction) → Lent (insert key measure)
   pub deletes : (key : ℕ) → IsWord key → Lent (delete key)
   pub lookups : (key : ℕ) → IsWord key → Lent (lookup key)
   pub ranges : (low high : ℕ) (output : List ℕ) → IsWord low → IsWord high → All IsWord output → Lent (range low high output)

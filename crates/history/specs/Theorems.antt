@@ -1,37 +1,43 @@
 -- What is claimed of whole histories; the files of `proofs` prove it. Assumes nothing.
-use mathlib.Core.Bool.{true, not, _&&_, _||_}
+use mathlib.Core.Bool.{true, false, cond, not, _&&_, _||_}
 use mathlib.Core.List.{List}
 use mathlib.Core.Logic.{_↔_}
 use mathlib.Core.Path.{_≡_}
-use Prim.Native.Nat.{ℕ, _≤_}
+use Prim.Native.Nat.{ℕ, _<_, _≤_}
 use lib.Dec.{eqb}
+use lib.IntN.{ℤ, pos}
 use lib.ListN.{length, take, getD}
-use Rattle.lists.specs.Lists.{All, keep, member}
+use Rattle.lists.specs.Lists.{All, Rising, keep, member}
+use Rattle.measure.specs.Measure.{Measure, unmeasured}
 use Rattle.table.specs.Layout.{mostSlots, tableWords}
-use Rattle.table.specs.Contents.{Contents, Valid}
+use Rattle.table.specs.Contents.{Contents, Valid, keysIn, measureIn}
 use Rattle.table.specs.Table.{fresh, Sound}
 use Rattle.image.specs.Image.{imageOf, readImage, isImage}
-use Rattle.call_meaning.specs.Calls.{loadRefusal, writeRefusal, writeReply, writeOutput}
+use Rattle.call_meaning.specs.Calls.{loadRefusal, lookupCorrection, writeRefusal, writeReply, writeOutput}
 use Rattle.call_step.specs.Steps.{stepPlace}
 use Rattle.call_step.specs.declared.Place.{Place}
 use Rattle.call_batch.specs.Batch.{batchAfter}
 use Rattle.call_batch.specs.declared.Question.{Question}
 use Rattle.history.specs.Call.{Call, load, asks, Opening, opened, Accepted, History, callsOf, callsOfLoad, spelledOut, run, runs, reply, output}
 use Rattle.image.specs.Layout.{IsByte}
-use Rattle.history.specs.Book.{withKey, withoutKey, refusalBy, note, notes, bookOf, replyBy, outputBy, placeBy, linesBy}
+use Rattle.history.specs.Book.{listed, withKey, withoutKey, refusalBy, note, notes, bookOf, replyBy, correctionBy, outputBy, placeBy, linesBy}
 
--- "A table has M slots, M from 1 to 4,096, and lives in lent 64-bit words, 3 + 6·M of them": any words of that number.
+-- "A table has M slots, M from 1 to 4,096, and lives in lent 64-bit words" (01); "the table is 3 + 8·M words" (02, N4): any words of that
+-- number.
 pub record Table (many : ℕ) (words : List ℕ) : Type 0 where
   -- "M from 1"
   pub some : 1 ≤ many
   -- "to 4,096"
   pub most : many ≤ mostSlots
-  -- "3 + 6·M of them"
+  -- "3 + 8·M words"
   pub long : length words ≡ tableWords many
 
--- The same order and the same set of keys.
+-- The same order and the same set, "one of keys with their measures": the same keys, and for each key the same measure.
 abbrev pub Agree : Contents → Contents → Type 0
-Agree c d = (c .order ≡ d .order) × ((key : ℕ) → member key (c .keys) ≡ member key (d .keys))
+Agree c d =
+    (c .order ≡ d .order)
+    × ((key : ℕ) → member key (keysIn c) ≡ member key (keysIn d))
+    × ((key : ℕ) → measureIn (c .entries) key ≡ measureIn (d .entries) key)
 
 -- The words of a table of M slots after a history, and its book.
 abbrev pub tableAfter : History → List ℕ → List ℕ
@@ -40,7 +46,7 @@ tableAfter history words = runs (callsOf history) words
 abbrev pub bookAfter : ℕ → History → Contents
 bookAfter many history = bookOf many (callsOf history)
 
--- ---- Demand 3
+-- ---- Demand 3: "a set, the book's too, is now one of keys with their measures" (02, N4)
 -- After every history, over any words, the table is in every word the one built afresh from its book's order and set, which has at
 -- most M keys.
 abbrev pub TableFromBook : Type 0
@@ -49,7 +55,7 @@ TableFromBook =
     → (tableAfter history words ≡ fresh many (bookAfter many history)) × Valid many (bookAfter many history)
 
 -- After two histories on equally many slots, over any words each, the tables agree in every word exactly when their books agree in
--- order and set.
+-- order and set, the measures included.
 abbrev pub TablesAgree : Type 0
 TablesAgree =
     (many : ℕ) (words others : List ℕ) (one another : History) → Table many words → Table many others
@@ -63,7 +69,8 @@ writtenImage words lent = take (getD (writeReply words lent .numbers) 0 0) (writ
 abbrev pub ImageWritten : Type 0
 ImageWritten = (words lent : List ℕ) (sound : Sound words) → writeRefusal words lent ≡ 0 → writtenImage words lent ≡ imageOf (sound .contents)
 
--- Of every two sound tables, of any numbers of slots, the images agree in every byte exactly when the tables agree in order and set.
+-- Of every two sound tables, of any numbers of slots, the images agree in every byte exactly when the tables agree in order and set, the
+-- measures included.
 abbrev pub ImagesAgree : Type 0
 ImagesAgree =
     (words others lent room : List ℕ) (sound : Sound words) (right : Sound others) → writeRefusal words lent ≡ 0 → writeRefusal others room ≡ 0
@@ -77,7 +84,7 @@ HistoriesImagesAgree =
     → ((writtenImage (tableAfter one words) lent ≡ writtenImage (tableAfter another others) room)
     ↔ Agree (bookAfter many one) (bookAfter several another))
 
--- "Demand 3 is a single claim about whole histories".
+-- "Demand 3 is a single claim about whole histories": order, keys and measures at once.
 pub record HistoryIndependence : Type 0 where
   pub table-from-book : TableFromBook
   pub tables-agree : TablesAgree
@@ -88,6 +95,7 @@ pub record HistoryIndependence : Type 0 where
 -- ---- Demand 2, over histories: after every history each call, whatever it is handed, answers what the book says
 pub record Answers (many : ℕ) (words : List ℕ) (book : Contents) : Type 0 where
   pub replies : (call : Call) → reply call words ≡ replyBy many call book
+  pub corrections : (key : ℕ) → lookupCorrection words key ≡ correctionBy many key book
   pub outputs : (call : Call) → output call words ≡ outputBy many call book
   pub places : (place : Place) → stepPlace words place ≡ placeBy place book
   pub lines : (questions : List Question) → batchAfter words questions ≡ linesBy many questions book
@@ -133,22 +141,32 @@ pub record LoadsSpelledOut : Type 0 where
   pub book : (many : ℕ) (history : History) → bookOf many (spelledOut (callsOf history)) ≡ bookAfter many history
 
 -- ---- what the claims stand on
--- Order and set agree exactly when order and rising list do.
+-- Order and set agree exactly when order and list of entries, by rising key, do.
 abbrev pub AgreeAsLists : Type 0
 AgreeAsLists =
-    (many several : ℕ) (c d : Contents) → Valid many c → Valid several d → (Agree c d ↔ ((c .order ≡ d .order) × (c .keys ≡ d .keys)))
+    (many several : ℕ) (c d : Contents) → Valid many c → Valid several d → (Agree c d ↔ ((c .order ≡ d .order) × (c .entries ≡ d .entries)))
 
 -- The writing of a sound table is accepted exactly when the output has room for the image.
 abbrev pub WritingAccepted : Type 0
 WritingAccepted =
     (words lent : List ℕ) (sound : Sound words) → ((writeRefusal words lent ≡ 0) ↔ (length (imageOf (sound .contents)) ≤ length lent))
 
--- The book's entries are what document 01 calls them.
+-- The book's entries are what the documents call them.
 pub record Entries : Type 0 where
-  -- "the key joins the set"
-  pub joins : (key other : ℕ) (book : Contents) → member other (withKey key book .keys) ≡ (eqb other key || member other (book .keys))
-  -- "the key leaves it"
-  pub leaves : (key other : ℕ) (book : Contents) → member other (withoutKey key book .keys) ≡ (not (eqb other key) && member other (book .keys))
+  -- "the listed keys", and where the list rises and neither a length nor a correction is "missing or left over", each with those beside it
+  pub lists : (order : ℕ) (list lengths : List ℕ) (corrections : List ℤ) → keysIn (listed order list lengths corrections) ≡ list
+  pub lists-measures : (order : ℕ) (list lengths : List ℕ) (corrections : List ℤ) → Rising list → length lengths ≡ length list
+      → length corrections ≡ length list → (i : ℕ) → i < length list
+      → measureIn (listed order list lengths corrections .entries) (getD list i 0) ≡ record { length = getD lengths i 0; correction = getD corrections i (pos 0) }
+  -- "the key joins the set", and where it was not in it, it has the given measure, and every other key its own
+  pub joins : (key other : ℕ) (measure : Measure) (book : Contents)
+      → member other (keysIn (withKey key measure book)) ≡ (eqb other key || member other (keysIn book))
+  pub joins-measures : (key other : ℕ) (measure : Measure) (book : Contents) → member key (keysIn book) ≡ false
+      → measureIn (withKey key measure book .entries) other ≡ cond (eqb other key) measure (measureIn (book .entries) other)
+  -- "the key leaves it", and its measure with it; every other key keeps its own
+  pub leaves : (key other : ℕ) (book : Contents) → member other (keysIn (withoutKey key book)) ≡ (not (eqb other key) && member other (keysIn book))
+  pub leaves-measures : (key other : ℕ) (book : Contents)
+      → measureIn (withoutKey key book .entries) other ≡ cond (eqb other key) unmeasured (measureIn (book .entries) other)
   -- "the order and set whose image the bytes are", where 6 does not apply
   pub reads : (bytes : List ℕ) → All IsByte bytes → isImage bytes ≡ true → Valid mostSlots (readImage bytes) × (bytes ≡ imageOf (readImage bytes))
   -- 6 does not apply to an image "that the writer makes for any order and any set of at most 4,096 keys", and that order and set are read

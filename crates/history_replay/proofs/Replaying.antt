@@ -1,16 +1,15 @@
 -- A script call by call. Assumes nothing.
-use mathlib.Core.Bool.{cond}
 use mathlib.Core.List.{List, [], _∷_}
 use mathlib.Core.Logic.{_≢_}
 use mathlib.Core.Path.{_≡_, refl, sym, ap, _∙_}
 use Prim.Native.Nat.{ℕ, suc, _+_, _-_, _<_, _≤_}
 use native.Mathlib.Omega.{arith}
 use native.Mathlib.Numerals.{add-one}
-use lib.Dec.{eqb}
 use lib.ListN.{length, getD, drop, length-drop}
 use lib.Seq.{drop-cons}
 use borrow.Author.Tests.{eq-eqb, ne-eqb}
-use Rattle.history.specs.Call.{Call, run, runs}
+use Rattle.measure.specs.Measure.{unmeasured}
+use Rattle.history.specs.Call.{run, runs}
 use Rattle.call_meaning.specs.Calls.{setUpAfter, insertAfter, deleteAfter}
 use Rattle.history_replay.specs.Script.{callOf, callsIn}
 
@@ -21,7 +20,7 @@ module _ (kind value : ℕ) (words : List ℕ) where
   sets-up e = rw (eq-eqb kind 0 e) refl
 
   module _ (d : kind ≢ 0) where
-    pub inserts : kind ≡ 1 → insertAfter words value ≡ run (callOf kind value) words
+    pub inserts : kind ≡ 1 → insertAfter words value unmeasured ≡ run (callOf kind value) words
     unfolding callOf
     inserts e = rw (ne-eqb kind 0 d, eq-eqb kind 1 e) refl
 

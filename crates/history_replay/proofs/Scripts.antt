@@ -2,7 +2,9 @@
 use mathlib.Core.List.{List, [], _∷_}
 use mathlib.Core.Path.{_≡_, sym, ap, _∙_, subst}
 use Prim.Native.Nat.{ℕ}
+use native.Mathlib.Omega.{arith}
 use lib.Dec.{eqb}
+use lib.Signed.{leZ-yes}
 use Rattle.lists.specs.Lists.{All}
 use Rattle.lists.proofs.Tests.{by-test}
 use Rattle.call_meaning.specs.Calls.{setUpReply}
@@ -16,7 +18,7 @@ call-lent : (kind value : ℕ) → IsWord value → Lent (callOf kind value)
 unfolding callOf
 call-lent kind value word =
     by-test (eqb kind 0) (λ e. rw e word)
-    (λ e. rw e (by-test (eqb kind 1) (λ f. rw f word)
+    (λ e. rw e (by-test (eqb kind 1) (λ f. rw f (word, omega arith, (leZ-yes tt, leZ-yes tt)))
     (λ f. rw f (by-test (eqb kind 2) (λ g. rw g word) (λ g. rw g word)))))
 
 calls-lent : (script : List ℕ) → All IsWord script → All Lent (callsIn script)

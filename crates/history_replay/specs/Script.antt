@@ -4,15 +4,16 @@ use mathlib.Core.List.{List, [], _∷_}
 use mathlib.Core.Path.{_≡_}
 use Prim.Native.Nat.{ℕ}
 use lib.Dec.{eqb}
+use Rattle.measure.specs.Measure.{unmeasured}
 use Rattle.table.specs.Table.{fresh}
 use Rattle.call_meaning.specs.Calls.{setUpRefusal}
 use Rattle.history.specs.Call.{Call, History, callsOf}
 use Rattle.history.specs.Call.Call.{setUp, insert, delete, lookup}
 use Rattle.history.specs.Theorems.{Table, bookAfter}
 
--- 0 is a set-up, 1 an insert, 2 a delete, and any other number a lookup.
+-- 0 is a set-up, 1 an insert of a key that is not measured, 2 a delete, and any other number a lookup.
 unfoldable pub callOf : ℕ → ℕ → Call
-callOf kind value = cond (eqb kind 0) (setUp value) (cond (eqb kind 1) (insert value) (cond (eqb kind 2) (delete value) (lookup value)))
+callOf kind value = cond (eqb kind 0) (setUp value) (cond (eqb kind 1) (insert value unmeasured) (cond (eqb kind 2) (delete value) (lookup value)))
 
 -- The calls of a script, in their order; a word left over at its end is no call.
 abbrev pub callsIn : List ℕ → List Call

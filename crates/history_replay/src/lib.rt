@@ -10,7 +10,7 @@ pub const INSERT: u64 = 1;
 
 pub const DELETE: u64 = 2;
 
-// One call, with its order or key.
+// One call, with its order or key; a key that is inserted is not measured.
 fn run_call(table: &mut [u64], kind: u64, value: u64)
     ensures { λ _. ⌜ now (table .exit) ≡ run (callOf kind value) (now (table .entry)) ⌝ }
 {
@@ -19,7 +19,7 @@ fn run_call(table: &mut [u64], kind: u64, value: u64)
         return;
     }
     if kind == INSERT {
-        index::insert(table, value);
+        index::insert(table, value, 0, 0);
         return;
     }
     if kind == DELETE {

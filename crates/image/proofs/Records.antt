@@ -1,15 +1,21 @@
 -- The image's records: how long each is, that it is made of bytes, and what stands in the fields that a reader needs. Assumes of a
 -- number, where it says so, that it fits its field.
+use mathlib.Core.Bool.{false}
 use mathlib.Core.List.{List, _++_}
 use mathlib.Core.Path.{_≡_, refl}
 use Prim.Native.Nat.{ℕ, _+_, _^_, _<_}
 use native.Mathlib.Omega.{arith}
+use lib.Dec.{eqb}
 use lib.ListN.{length, drop}
-use Rattle.lists.specs.Lists.{All}
+use borrow.Author.Tests.{eqb-true}
+use Rattle.lists.specs.Lists.{All, nonzero}
+use Rattle.lists.proofs.Tests.{by-test}
 use Rattle.lists.proofs.Keep.{all-append}
-use Rattle.treap.specs.Image.{littleEndian, orderBytes, countBytes, keyBytes, headerMark, blockMark, nodeMark, headerRecord, blockRecord, nodeRecord}
-use Rattle.image.specs.Layout.{headerBytes, blockBytes, nodeBytes, orderAt, blocksAt, heldAt, keyAt, IsByte}
-use Rattle.image.specs.Image.{fieldAt}
+use Rattle.measure.specs.Measure.{measureFrom}
+use Rattle.measure.proofs.Stored.{from-nothing}
+use Rattle.treap.specs.Image.{littleEndian, orderBytes, countBytes, keyBytes, lengthBytes, correctionBytes, headerMark, blockMark, nodeMark, measuredMark, headerRecord, blockRecord, nodeFields, nodeRecord}
+use Rattle.image.specs.Layout.{headerBytes, blockBytes, recordBytes, orderAt, blocksAt, heldAt, keyAt, lengthAt, correctionAt, IsByte}
+use Rattle.image.specs.Image.{fieldAt, isMeasured, nodeSpan, entryShown}
 use Rattle.image.proofs.Bytes.{littleEndian-bytes, number-of-bytes}
 
 -- ---- the header
@@ -45,14 +51,42 @@ module _ (leader level n : ℕ) where
   block-dropped rest = refl
 
 -- ---- a key's record
-module _ (key left right rank count : ℕ) where
-  pub node-length : length (nodeRecord key left right rank count) ≡ nodeBytes
-  unfolding nodeRecord
-  node-length = refl
+module _ (key left right rank count long stored : ℕ) where
+  pub node-length : length (nodeRecord key left right rank count long stored) ≡ recordBytes long
+  unfolding nodeRecord nodeFields
+  node-length = by-test (eqb long 0) (λ e. rw e) (λ e. rw e)
 
-  pub node-key : (rest : List ℕ) → key < 2 ^ 64 → fieldAt keyAt keyBytes (nodeRecord key left right rank count ++ rest) ≡ key
-  unfolding nodeRecord fieldAt
-  node-key rest h = number-of-bytes keyBytes key h
+  pub node-marked : (rest : List ℕ) → isMeasured (nodeRecord key left right rank count long stored ++ rest) ≡ nonzero long
+  unfolding nodeRecord nodeFields isMeasured
+  node-marked rest = by-test (eqb long 0) (λ e. rw e) (λ e. rw e)
+
+  pub node-span : (rest : List ℕ) → nodeSpan (nodeRecord key left right rank count long stored ++ rest) ≡ recordBytes long
+  unfolding nodeSpan
+  node-span rest = rw (node-marked rest) (by-test (eqb long 0) (λ e. rw e) (λ e. rw e))
+
+  pub node-key : (rest : List ℕ) → key < 2 ^ 64 → fieldAt keyAt keyBytes (nodeRecord key left right rank count long stored ++ rest) ≡ key
+  unfolding nodeRecord nodeFields fieldAt
+  node-key rest h = by-test (eqb long 0) (λ e. rw e (number-of-bytes keyBytes key h)) (λ e. rw e (number-of-bytes keyBytes key h))
+
+  -- the two numbers of a measured key
+  module _ (measured : eqb long 0 ≡ false) (rest : List ℕ) where
+    pub node-long : long < 2 ^ 32 → fieldAt lengthAt lengthBytes (nodeRecord key left right rank count long stored ++ rest) ≡ long
+    unfolding nodeRecord nodeFields fieldAt
+    node-long h = rw measured (number-of-bytes lengthBytes long h)
+
+    pub node-stored : stored < 65536 → fieldAt correctionAt correctionBytes (nodeRecord key left right rank count long stored ++ rest) ≡ stored
+    unfolding nodeRecord nodeFields fieldAt
+    node-stored h = rw measured (number-of-bytes correctionBytes stored h)
+
+  -- so the record shows the key and the measure that is stored
+  pub node-shown : (rest : List ℕ) → key < 2 ^ 64 → long < 2 ^ 32 → stored < 65536
+      → entryShown (nodeRecord key left right rank count long stored ++ rest) ≡ record { key = key; measure = measureFrom long stored }
+  unfolding entryShown
+  node-shown rest h few fits =
+      rw (node-marked rest, node-key rest h)
+      (by-test (eqb long 0)
+      (λ e. rw (e, eqb-true long 0 e, from-nothing stored))
+      (λ e. rw (e, node-long e rest few, node-stored e rest fits)))
 
 -- ---- all of them are made of bytes
 both : (xs ys : List ℕ) → All IsByte xs → All IsByte ys → All IsByte (xs ++ ys)
@@ -73,11 +107,22 @@ block-bytes leader level n =
     (both (blockMark ++ littleEndian keyBytes leader) (littleEndian countBytes level)
     (both blockMark (littleEndian keyBytes leader) (omega arith) (littleEndian-bytes keyBytes leader)) (littleEndian-bytes countBytes level)) (littleEndian-bytes countBytes n)
 
-pub node-bytes : (key left right rank count : ℕ) → All IsByte (nodeRecord key left right rank count)
+fields-bytes : (key left right rank count : ℕ) → All IsByte (nodeFields key left right rank count)
+unfolding nodeFields
+fields-bytes key left right rank count =
+    both (littleEndian keyBytes key ++ littleEndian keyBytes left ++ littleEndian keyBytes right ++ littleEndian countBytes rank) (littleEndian countBytes count)
+    (both (littleEndian keyBytes key ++ littleEndian keyBytes left ++ littleEndian keyBytes right) (littleEndian countBytes rank)
+    (both (littleEndian keyBytes key ++ littleEndian keyBytes left) (littleEndian keyBytes right)
+    (both (littleEndian keyBytes key) (littleEndian keyBytes left) (littleEndian-bytes keyBytes key) (littleEndian-bytes keyBytes left)) (littleEndian-bytes keyBytes right)) (littleEndian-bytes countBytes rank)) (littleEndian-bytes countBytes count)
+
+pub node-bytes : (key left right rank count long stored : ℕ) → All IsByte (nodeRecord key left right rank count long stored)
 unfolding nodeRecord
-node-bytes key left right rank count =
-    both (nodeMark ++ littleEndian keyBytes key ++ littleEndian keyBytes left ++ littleEndian keyBytes right ++ littleEndian countBytes rank) (littleEndian countBytes count)
-    (both (nodeMark ++ littleEndian keyBytes key ++ littleEndian keyBytes left ++ littleEndian keyBytes right) (littleEndian countBytes rank)
-    (both (nodeMark ++ littleEndian keyBytes key ++ littleEndian keyBytes left) (littleEndian keyBytes right)
-    (both (nodeMark ++ littleEndian keyBytes key) (littleEndian keyBytes left)
-    (both nodeMark (littleEndian keyBytes key) (omega arith) (littleEndian-bytes keyBytes key)) (littleEndian-bytes keyBytes left)) (littleEndian-bytes keyBytes right)) (littleEndian-bytes countBytes rank)) (littleEndian-bytes countBytes count)
+node-bytes key left right rank count long stored =
+    let fields = nodeFields key left right rank count in
+    let plain = fields-bytes key left right rank count in
+    by-test (eqb long 0) (λ e. rw e (both nodeMark fields (omega arith) plain))
+    (λ e.
+    rw e
+    (both (measuredMark ++ fields ++ littleEndian lengthBytes long) (littleEndian correctionBytes stored)
+    (both (measuredMark ++ fields) (littleEndian lengthBytes long) (both measuredMark fields (omega arith) plain) (littleEndian-bytes lengthBytes long))
+    (littleEndian-bytes correctionBytes stored)))

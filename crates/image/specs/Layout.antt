@@ -1,7 +1,9 @@
 -- The numbers of the image's layout, each by its name. Assumes nothing.
+use mathlib.Core.Bool.{cond}
 use Prim.Native.Nat.{ℕ, _+_, _*_, _<_}
+use lib.Dec.{eqb}
 
--- "Length is 15 + 14·b + 30·n": the bytes of a record.
+-- "Length is 15 + 14·b + 30·n": the bytes of a record; a measured key's has "6 bytes more" (02, N4).
 abbrev pub headerBytes : ℕ
 headerBytes = 15
 
@@ -10,6 +12,13 @@ blockBytes = 14
 
 abbrev pub nodeBytes : ℕ
 nodeBytes = 30
+
+abbrev pub measureBytes : ℕ
+measureBytes = 6
+
+-- The bytes of the record of a key that has this length.
+abbrev pub recordBytes : ℕ → ℕ
+recordBytes long = cond (eqb long 0) nodeBytes (nodeBytes + measureBytes)
 
 -- Where the header's fields begin: the order, the number of keys, the number of blocks, the root key.
 abbrev pub orderAt : ℕ
@@ -34,7 +43,7 @@ levelAt = 10
 abbrev pub heldAt : ℕ
 heldAt = 12
 
--- Where the fields of a node record begin that are read: the key, the rank, the count.
+-- Where the fields of a node record begin that are read: the key, the rank, the count; the length, the stored correction.
 abbrev pub keyAt : ℕ
 keyAt = 2
 
@@ -44,9 +53,15 @@ rankAt = 26
 abbrev pub countAt : ℕ
 countAt = 28
 
--- "Length is 15 + 14·b + 30·n", for n keys in b blocks.
-abbrev pub imageBytes : ℕ → ℕ → ℕ
-imageBytes n b = headerBytes + blockBytes * b + nodeBytes * n
+abbrev pub lengthAt : ℕ
+lengthAt = 30
+
+abbrev pub correctionAt : ℕ
+correctionAt = 34
+
+-- "Length is 15 + 14·b + 30·n", for n keys in b blocks, and "6 bytes more" for each of m measured ones.
+abbrev pub imageBytes : ℕ → ℕ → ℕ → ℕ
+imageBytes n b m = headerBytes + blockBytes * b + nodeBytes * n + measureBytes * m
 
 -- The number is a byte.
 abbrev pub IsByte : ℕ → Type 0

@@ -8,12 +8,19 @@ pub const BLOCK_BYTES: usize = 14;
 
 pub const NODE_BYTES: usize = 30;
 
-// The bytes of a field: the order; a count, a level or a rank; a key.
+// What the record of a measured key has more than that.
+pub const MEASURE_BYTES: usize = 6;
+
+// The bytes of a field: the order; a count, a level or a rank; a key; a length; a stored correction.
 pub const ORDER_BYTES: usize = 1;
 
 pub const COUNT_BYTES: usize = 2;
 
 pub const KEY_BYTES: usize = 8;
+
+pub const LENGTH_BYTES: usize = 4;
+
+pub const CORRECTION_BYTES: usize = 2;
 
 // Where the header's fields begin.
 pub const ORDER_AT: usize = 2;
@@ -42,8 +49,12 @@ pub const RANK_AT: usize = 26;
 
 pub const COUNT_AT: usize = 28;
 
-// The bytes of the longest image: of 4,096 keys in as many blocks.
-pub const MOST_BYTES: usize = 180239;
+pub const LENGTH_AT: usize = 30;
+
+pub const CORRECTION_AT: usize = 34;
+
+// The bytes of the longest image: of 4,096 measured keys in as many blocks.
+pub const MOST_BYTES: usize = 204815;
 
 // The most bytes with which an image cannot have more than 512 keys: a header and so many node records.
 pub const MEDIUM_BYTES: usize = 15375;

@@ -1,5 +1,5 @@
 -- Laws of reading an image, one subject a file.
-pub mod Marks
-pub mod Windows
+pub mod Nodes
+pub mod Passing
 pub mod Walking
 pub mod Readable

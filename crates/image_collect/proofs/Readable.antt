@@ -1,149 +1,178 @@
 -- The records of an image can be read. Assumes nothing but that the contents are ones that a table may hold.
-use mathlib.Core.Bool.{true, false, _&&_}
-use mathlib.Core.List.{List, [], _∷_, _++_, flatMap, append-assoc, append-nil}
+use mathlib.Core.Bool.{true, false, _&&_, not}
+use mathlib.Core.List.{List, [], _∷_, _++_, flatMap}
 use mathlib.Core.Path.{_≡_, refl, sym, ap, ap₂, _∙_, subst}
-use Prim.Native.Nat.{ℕ, zero, suc, _+_, _*_, _<_, _≤_}
+use Prim.Native.Nat.{ℕ, zero, suc, _+_, _*_, _≤_}
 use native.Mathlib.Omega.{arith}
-use lib.Dec.{eqb, ltb, leb}
-use lib.ListN.{length, getD, drop, length-append, length-drop, length-map}
-use lib.Seq.{getD-append-add}
+use lib.Dec.{eqb, leb}
+use lib.ListN.{length, take, drop, length-append, length-drop, length-map}
 use borrow.Author.Tests.{le-leb, leb-true}
-use Rattle.lists.specs.Lists.{All, every, upFrom, sortBy}
+use Rattle.lists.specs.Lists.{All, same, sortBy}
 use Rattle.lists.proofs.Tests.{by-test, true-or-false, and-both, and-left, and-right}
+use Rattle.lists.proofs.Keep.{all-append}
 use Rattle.lists.proofs.Sorted.{sorted-length}
-use Rattle.lists.proofs.Keep.{all-map, every-when}
-use Rattle.lists.proofs.UpFrom.{upFrom-within, upFrom-length}
+use Rattle.measure.specs.Measure.{Measure, isMeasure, storedCorrection}
+use Rattle.measure.proofs.Stored.{measure-stored, stored-bounds}
+use Rattle.measure.specs.Tag.{isStored}
 use Rattle.priority.specs.Priority.{priorityOf}
 use Rattle.treap.specs.Treap.{leftLink, rightLink}
 use Rattle.treap.specs.Levels.{rank, count}
 use Rattle.treap.specs.Blocks.{Block, blocks}
-use Rattle.treap.specs.Image.{nodeRecord, nodeOf, blockPart, countBytes}
+use Rattle.treap.specs.Image.{nodeMark, nodeRecord, nodeOf, blockPart, countBytes}
 use Rattle.table.specs.Layout.{mostSlots}
-use Rattle.table.specs.Contents.{Contents, Valid}
-use Rattle.image.specs.Layout.{headerBytes, blockBytes, nodeBytes, heldAt, IsByte}
-use Rattle.image.specs.Image.{imageOf, fieldAt, nodeKeys, blockKeys, readImage, isImage}
+use Rattle.table.specs.Contents.{Contents, Valid, entryKeys, keysIn, measureIn, keyBelow}
+use Rattle.table.proofs.Entries.{sorted-keys}
+use Rattle.image.specs.Layout.{headerBytes, blockBytes, nodeBytes, measureBytes, heldAt, IsByte}
+use Rattle.image.specs.Image.{imageOf, fieldAt, nodeEntries, nodesSpan, blockEntries, readImage, isImage}
 use Rattle.image.proofs.Judging.{is-image-says}
-use Rattle.image.proofs.Lengths.{nodeOf-length, blockPart-length, image-length}
-use Rattle.image.proofs.Reading.{Readable, part-held, part-nodes, part-dropped, blocks-readable, number-read, parts-read, keys-read, read-of-image}
-use Rattle.image_collect.specs.Reading.{markedAt, marked, blockSpan, intact, blocksOf, keysOf, readable, RoomFor}
+use Rattle.image.proofs.Lengths.{blockPart-length, image-length}
+use Rattle.image.proofs.Records as written
+use Rattle.image.proofs.Reading.{Readable, nodeOf-left, nodes-first, part-held, part-nodes, part-left, blocks-readable, number-read, parts-read, measured-right, read-of-image}
+use Rattle.image_collect.specs.Reading.{isNode, areNodes, intact, blocksOf, entriesOf, readable, RoomFor}
+use Rattle.image_collect.proofs.Nodes.{node-plain, node-measured, entries-number, nodes-inside, nodes-least, nodes-right}
 
--- a mark further on, behind so many bytes
-mark-after : (front rest : List ℕ) (size at : ℕ) → length front ≡ size → markedAt (front ++ rest) (size + at) ≡ markedAt rest at
-unfolding markedAt
-mark-after front rest size at e =
-    let first : size + at ≡ length front + at = omega arith in
-    let second : size + at + 1 ≡ length front + (at + 1) = omega arith in
-    ap₂ (λ (a b : ℕ). eqb a 76 && eqb b 78)
-    (ap (λ (i : ℕ). getD (front ++ rest) i 0) first ∙ getD-append-add front rest at 0)
-    (ap (λ (i : ℕ). getD (front ++ rest) i 0) second ∙ getD-append-add front rest (at + 1) 0)
+-- ---- the record of a key, whatever follows it
+module _ (key left right rank count long stored : ℕ) (rest : List ℕ) where
+  abbrev own : List ℕ
+  own = nodeRecord key left right rank count long stored
 
-module _ (α : ℕ) (p : ℕ → ℕ) (ks : List ℕ) where
-  mark-first : (k : ℕ) (rest : List ℕ) → markedAt (nodeOf α p ks k ++ rest) 0 ≡ true
-  unfolding markedAt nodeOf nodeRecord
-  mark-first k rest = refl
+  plain-mark : eqb long 0 ≡ true → same (take 2 (own ++ rest)) nodeMark ≡ true
+  unfolding nodeRecord
+  plain-mark e = rw e refl
 
-  mark-at : (xs rest : List ℕ) (i : ℕ) → i < length xs → markedAt (flatMap (nodeOf α p ks) xs ++ rest) (nodeBytes * i) ≡ true
-  unfolding flatMap
-  mark-at [] rest i h = absurd (omega arith)
-  mark-at (x ∷ xs) rest zero h =
-      ap (λ (bytes : List ℕ). markedAt bytes 0) (append-assoc (nodeOf α p ks x) (flatMap (nodeOf α p ks) xs) rest)
-      ∙ mark-first x (flatMap (nodeOf α p ks) xs ++ rest)
-  mark-at (x ∷ xs) rest (suc i) h =
-      let next : nodeBytes * suc i ≡ nodeBytes + nodeBytes * i = omega arith in
-      ap₂ markedAt (append-assoc (nodeOf α p ks x) (flatMap (nodeOf α p ks) xs) rest) next
-      ∙ mark-after (nodeOf α p ks x) (flatMap (nodeOf α p ks) xs ++ rest) nodeBytes (nodeBytes * i) (nodeOf-length α p ks x)
-      ∙ mark-at xs rest i (omega arith)
+  record-node : isStored long stored ≡ true → isNode (own ++ rest) ≡ true
+  record-node fits =
+      let (few, low) = stored-bounds long stored fits in
+      let marked = written.node-marked key left right rank count long stored rest in
+      let size = written.node-length key left right rank count long stored in
+      let both = length-append own rest in
+      by-test (eqb long 0)
+      (λ e.
+      let short : length own ≡ nodeBytes = rw e at size in
+      sym (node-plain (own ++ rest) (omega arith) (marked ∙ ap not e)) ∙ plain-mark e)
+      (λ e.
+      let more : length own ≡ nodeBytes + measureBytes = rw e at size in
+      sym (node-measured (own ++ rest) (omega arith) (marked ∙ ap not e))
+      ∙ ap₂ isStored (written.node-long key left right rank count long stored e rest (omega arith)) (written.node-stored key left right rank count long stored e rest (omega arith))
+      ∙ fits)
 
-  nodes-marked : (xs rest : List ℕ) → marked (length xs) (flatMap (nodeOf α p ks) xs ++ rest) ≡ true
-  unfolding marked
-  nodes-marked xs rest =
-      every-when (λ i. markedAt (flatMap (nodeOf α p ks) xs ++ rest) (nodeBytes * i)) (upFrom 0 (length xs))
-      (all-map (λ i. (0 ≤ i) × (i < 0 + length xs)) (λ i. markedAt (flatMap (nodeOf α p ks) xs ++ rest) (nodeBytes * i) ≡ true)
-      (λ i h. mark-at xs rest i (omega (arith, h .1))) (upFrom 0 (length xs)) (upFrom-within 0 (length xs)))
+-- ---- the node records of an image
+module _ (α : ℕ) (p : ℕ → ℕ) (m : ℕ → Measure) (ks : List ℕ) (right : (k : ℕ) → isMeasure (m k) ≡ true) where
+  nodeOf-node : (k : ℕ) (rest : List ℕ) → isNode (nodeOf α p m ks k ++ rest) ≡ true
+  unfolding nodeOf
+  nodeOf-node k rest =
+      record-node k (leftLink p ks k) (rightLink p ks k) (rank α p ks k) (count α p ks k) (m k .length) (storedCorrection (m k)) rest
+      (measure-stored (m k) (right k))
+
+  are-nodes : (xs rest : List ℕ) → areNodes (length xs) (flatMap (nodeOf α p m ks) xs ++ rest) ≡ true
+  are-nodes [] rest = refl
+  are-nodes (x ∷ xs) rest =
+      let later = flatMap (nodeOf α p m ks) xs ++ rest in
+      ap (areNodes (suc (length xs))) (nodes-first α p m ks x xs rest)
+      ∙ and-both (isNode (nodeOf α p m ks x ++ later)) _ (nodeOf-node x later)
+      (ap (areNodes (length xs)) (nodeOf-left α p m ks x later) ∙ are-nodes xs rest)
 
   -- ---- the blocks
-  block-intact : (b : Block) → Readable b → (rest : List ℕ) (many : ℕ) → intact many rest ≡ true → intact (suc many) (blockPart α p ks b ++ rest) ≡ true
-  unfolding blockSpan
-  block-intact b right rest many h =
-      let bytes = blockPart α p ks b ++ rest in
-      let held = part-held α p ks b right rest in
-      let fits : leb (blockBytes + nodeBytes * length (b .held)) (length bytes) ≡ true =
-      le-leb (blockBytes + nodeBytes * length (b .held)) (length bytes) (omega (arith, length-append (blockPart α p ks b) rest, blockPart-length α p ks b))
+  block-intact : (b : Block) → Readable b → (rest : List ℕ) (many : ℕ) → intact many rest ≡ true → intact (suc many) (blockPart α p m ks b ++ rest) ≡ true
+  block-intact b fits rest many h =
+      let bytes = blockPart α p m ks b ++ rest in
+      let nodes = drop blockBytes bytes in
+      let held = length (b .held) in
+      let inside : leb blockBytes (length bytes) ≡ true =
+      le-leb blockBytes (length bytes) (omega (arith, length-append (blockPart α p m ks b) rest, blockPart-length α p m ks b))
       in
-      let marks : marked (length (b .held)) (drop blockBytes bytes) ≡ true =
-      ap (marked (length (b .held))) (part-nodes α p ks b right rest) ∙ nodes-marked (b .held) rest
-      in
-      let later : intact many (drop (blockBytes + nodeBytes * length (b .held)) bytes) ≡ true = ap (intact many) (part-dropped α p ks b right rest) ∙ h in
-      ap (λ (m : ℕ). leb (blockBytes + nodeBytes * m) (length bytes) && (marked m (drop blockBytes bytes) && intact many (drop (blockBytes + nodeBytes * m) bytes))) held
-      ∙ and-both (leb (blockBytes + nodeBytes * length (b .held)) (length bytes)) _ fits (and-both (marked (length (b .held)) (drop blockBytes bytes)) _ marks later)
+      let all : areNodes held nodes ≡ true = ap (areNodes held) (part-nodes α p m ks b fits rest) ∙ are-nodes (b .held) rest in
+      let later : intact many (drop (nodesSpan held nodes) nodes) ≡ true = ap (intact many) (part-left α p m ks b fits rest) ∙ h in
+      ap (λ (n : ℕ). leb blockBytes (length bytes) && (areNodes n nodes && intact many (drop (nodesSpan n nodes) nodes))) (part-held α p m ks b fits rest)
+      ∙ and-both (leb blockBytes (length bytes)) _ inside (and-both (areNodes held nodes) _ all later)
 
-  blocks-intact : (bs : List Block) → All Readable bs → intact (length bs) (flatMap (blockPart α p ks) bs) ≡ true
+  blocks-intact : (bs : List Block) → All Readable bs → intact (length bs) (flatMap (blockPart α p m ks) bs) ≡ true
   unfolding flatMap
   blocks-intact [] h = refl
-  blocks-intact (b ∷ bs) h = block-intact b (h .0) (flatMap (blockPart α p ks) bs) (length bs) (blocks-intact bs (h .1))
+  blocks-intact (b ∷ bs) h = block-intact b (h .0) (flatMap (blockPart α p m ks) bs) (length bs) (blocks-intact bs (h .1))
 
 -- ---- an image
 module _ (c : Contents) (valid : Valid mostSlots c) where
-  blocks-number : blocksOf (imageOf c) ≡ length (blocks (c .order) priorityOf (c .keys))
+  blocks-number : blocksOf (imageOf c) ≡ length (blocks (c .order) priorityOf (keysIn c))
   unfolding blocksOf
   blocks-number = number-read c valid
 
   image-intact : intact (blocksOf (imageOf c)) (drop headerBytes (imageOf c)) ≡ true
   image-intact =
       ap₂ intact blocks-number (parts-read c valid)
-      ∙ blocks-intact (c .order) priorityOf (c .keys) (blocks (c .order) priorityOf (c .keys)) (blocks-readable c valid)
+      ∙ blocks-intact (c .order) priorityOf (measureIn (c .entries)) (keysIn c) (measured-right c valid) (blocks (c .order) priorityOf (keysIn c)) (blocks-readable c valid)
 
-  keys-number : length (keysOf (imageOf c)) ≡ length (c .keys)
-  unfolding keysOf blocksOf readImage
-  keys-number =
-      let shown : sortBy ltb (keysOf (imageOf c)) ≡ c .keys = ap (λ (d : Contents). d .keys) (read-of-image c valid) in
-      sym (sorted-length (keysOf (imageOf c))) ∙ ap length shown
+  entries-total : length (entriesOf (imageOf c)) ≡ length (keysIn c)
+  unfolding entriesOf blocksOf readImage
+  entries-total =
+      let shown : entryKeys (sortBy keyBelow (entriesOf (imageOf c))) ≡ keysIn c = ap keysIn (read-of-image c valid) in
+      sym (sorted-length (entryKeys (entriesOf (imageOf c))) ∙ length-map (entriesOf (imageOf c)) (λ e. e .key))
+      ∙ ap length (sym (sorted-keys (entriesOf (imageOf c))) ∙ shown)
 
   pub image-readable : (room : ℕ) → RoomFor (length (imageOf c)) room → readable room (imageOf c) ≡ true
   unfolding readable
   image-readable room enough =
       let long = image-length c valid in
       let fit = valid .keys-fit in
-      let few : length (c .keys) ≤ room = enough (length (c .keys)) fit (omega (arith, long)) in
-      and-both (leb headerBytes (length (imageOf c))) _
-      (le-leb headerBytes (length (imageOf c)) (omega (arith, long)))
-      (and-both (intact (blocksOf (imageOf c)) (drop headerBytes (imageOf c))) (leb (length (keysOf (imageOf c))) room) image-intact
-      (le-leb (length (keysOf (imageOf c))) room (omega (arith, few, keys-number))))
+      let few : length (keysIn c) ≤ room = enough (length (keysIn c)) fit (omega (arith, long)) in
+      and-both (leb headerBytes (length (imageOf c))) _ (le-leb headerBytes (length (imageOf c)) (omega (arith, long)))
+      (and-both (intact (blocksOf (imageOf c)) (drop headerBytes (imageOf c))) (leb (length (entriesOf (imageOf c))) room) image-intact
+      (le-leb (length (entriesOf (imageOf c))) room (omega (arith, few, entries-total))))
 
 -- what cannot be read, though there is room for the keys of an image, is no image
 pub unreadable : (room : ℕ) (bytes : List ℕ) → RoomFor (length bytes) room → All IsByte bytes → readable room bytes ≡ false → isImage bytes ≡ false
 unreadable room bytes enough sized e =
     by-test (isImage bytes)
     (λ t.
-    let right = is-image-says bytes t sized in
+    let valid = is-image-says bytes t sized in
     absurd
     (true-or-false (readable room bytes)
-    (ap (readable room) (right .1)
-    ∙ image-readable (readImage bytes) (right .0) room (subst (λ (b : List ℕ). RoomFor (length b) room) (right .1) enough))
+    (ap (readable room) (valid .1)
+    ∙ image-readable (readImage bytes) (valid .0) room (subst (λ (b : List ℕ). RoomFor (length b) room) (valid .1) enough))
     e))
     (λ t. t)
 
--- ---- keys that can be read lie within the bytes
-node-number : (held : ℕ) (bytes : List ℕ) → length (nodeKeys held bytes) ≡ held
-unfolding nodeKeys
-node-number held bytes = length-map (upFrom 0 held) _ ∙ upFrom-length 0 held
-
-keys-inside : (many : ℕ) (bytes : List ℕ) → intact many bytes ≡ true → nodeBytes * length (blockKeys many bytes) ≤ length bytes
-unfolding blockSpan
-keys-inside zero bytes h = omega arith
-keys-inside (suc many) bytes h =
+-- ---- what can be read lies within the bytes, and its measures are within the rules
+block-parts : (many : ℕ) (bytes : List ℕ) → intact (suc many) bytes ≡ true
+    → (blockBytes ≤ length bytes)
+    × (areNodes (fieldAt heldAt countBytes bytes) (drop blockBytes bytes) ≡ true)
+    × (intact many (drop (nodesSpan (fieldAt heldAt countBytes bytes) (drop blockBytes bytes)) (drop blockBytes bytes)) ≡ true)
+block-parts many bytes h =
     let held = fieldAt heldAt countBytes bytes in
-    let span = blockBytes + nodeBytes * held in
-    let fits = leb-true span (length bytes) (and-left (leb span (length bytes)) _ h) in
-    let later = keys-inside many (drop span bytes) (and-right (marked held (drop blockBytes bytes)) _ (and-right (leb span (length bytes)) _ h)) in
+    let nodes = drop blockBytes bytes in
+    let after = and-right (leb blockBytes (length bytes)) _ h in (
+      leb-true blockBytes (length bytes) (and-left (leb blockBytes (length bytes)) _ h),
+      and-left (areNodes held nodes) _ after,
+      and-right (areNodes held nodes) _ after,
+    )
+
+entries-inside : (many : ℕ) (bytes : List ℕ) → intact many bytes ≡ true → nodeBytes * length (blockEntries many bytes) ≤ length bytes
+entries-inside zero bytes h = omega arith
+entries-inside (suc many) bytes h =
+    let held = fieldAt heldAt countBytes bytes in
+    let nodes = drop blockBytes bytes in
+    let rest = drop (nodesSpan held nodes) nodes in
+    let (reach, all, later) = block-parts many bytes h in
     omega (
       arith,
-      fits,
-      later,
-      length-drop span bytes,
-      length-append (nodeKeys held (drop blockBytes bytes)) (blockKeys many (drop span bytes)),
-      node-number held (drop blockBytes bytes),
+      reach,
+      nodes-inside held nodes all,
+      nodes-least held nodes,
+      entries-number held nodes,
+      entries-inside many rest later,
+      length-drop (nodesSpan held nodes) nodes,
+      length-drop blockBytes bytes,
+      length-append (nodeEntries held nodes) (blockEntries many rest),
     )
+
+entries-right : (many : ℕ) (bytes : List ℕ) → intact many bytes ≡ true → All (λ e. isMeasure (e .measure) ≡ true) (blockEntries many bytes)
+entries-right zero bytes h = tt
+entries-right (suc many) bytes h =
+    let held = fieldAt heldAt countBytes bytes in
+    let nodes = drop blockBytes bytes in
+    let rest = drop (nodesSpan held nodes) nodes in
+    let (reach, all, later) = block-parts many bytes h in
+    all-append (λ e. isMeasure (e .measure) ≡ true) (nodeEntries held nodes) (blockEntries many rest) (nodes-right held nodes all) (entries-right many rest later)
 
 module _ (room : ℕ) (bytes : List ℕ) (e : readable room bytes ≡ true) where
   -- what can be read has a header, and keys for which there is room
@@ -151,18 +180,23 @@ module _ (room : ℕ) (bytes : List ℕ) (e : readable room bytes ≡ true) wher
   unfolding readable
   readable-header = leb-true headerBytes (length bytes) (and-left (leb headerBytes (length bytes)) _ e)
 
-  pub readable-few : length (keysOf bytes) ≤ room
+  all-intact : intact (blocksOf bytes) (drop headerBytes bytes) ≡ true
+  unfolding readable
+  all-intact = and-left (intact (blocksOf bytes) (drop headerBytes bytes)) _ (and-right (leb headerBytes (length bytes)) _ e)
+
+  pub readable-few : length (entriesOf bytes) ≤ room
   unfolding readable
   readable-few =
-      leb-true (length (keysOf bytes)) room
+      leb-true (length (entriesOf bytes)) room
       (and-right (intact (blocksOf bytes) (drop headerBytes bytes)) _ (and-right (leb headerBytes (length bytes)) _ e))
 
   -- so there is room for them wherever there is room for the keys of an image
-  pub readable-fits : (other : ℕ) → room ≤ mostSlots → RoomFor (length bytes) other → length (keysOf bytes) ≤ other
-  unfolding readable keysOf
+  pub readable-fits : (other : ℕ) → room ≤ mostSlots → RoomFor (length bytes) other → length (entriesOf bytes) ≤ other
+  unfolding entriesOf
   readable-fits other few enough =
-      let inside =
-      keys-inside (blocksOf bytes) (drop headerBytes bytes)
-      (and-left (intact (blocksOf bytes) (drop headerBytes bytes)) _ (and-right (leb headerBytes (length bytes)) _ e))
-      in
-      enough (length (keysOf bytes)) (omega (arith, readable-few, few)) (omega (arith, inside, readable-header, length-drop headerBytes bytes))
+      let inside = entries-inside (blocksOf bytes) (drop headerBytes bytes) all-intact in
+      enough (length (entriesOf bytes)) (omega (arith, readable-few, few)) (omega (arith, inside, readable-header, length-drop headerBytes bytes))
+
+  pub readable-right : All (λ e. isMeasure (e .measure) ≡ true) (entriesOf bytes)
+  unfolding entriesOf
+  readable-right = entries-right (blocksOf bytes) (drop headerBytes bytes) all-intact

@@ -1,58 +1,69 @@
--- Walking the blocks of an image: the keys of the blocks passed are collected, and those to come are read from here on. Assumes
+-- Walking the blocks of an image: the entries of the blocks passed are collected, and those to come are read from here on. Assumes
 -- nothing.
-use mathlib.Core.Bool.{Bool, true, false, cond, _&&_}
-use mathlib.Core.List.{List, [], _∷_, _++_, append-assoc, append-nil}
-use mathlib.Core.Path.{_≡_, refl, sym, ap, ap₂, _∙_, subst}
-use Prim.Native.Nat.{ℕ, zero, suc, _+_, _*_, _-_, _<_, _≤_}
+use mathlib.Core.Bool.{Bool, true, false, _&&_}
+use mathlib.Core.List.{List, [], _++_, map, map-append, append-assoc, append-nil}
+use mathlib.Core.Path.{_≡_, refl, sym, ap, ap₂, _∙_}
+use Prim.Native.Nat.{ℕ, suc, _+_, _-_, _<_, _≤_}
 use native.Mathlib.Omega.{arith}
 use lib.Dec.{leb}
-use lib.ListN.{length, take, drop, length-append, length-drop}
+use lib.ListN.{length, drop, length-append, length-drop, length-map}
 use lib.Seq.{drop-drop}
 use borrow.Author.Tests.{le-leb, lt-leb}
 use Rattle.lists.specs.Lists.{overwrite}
 use Rattle.lists.proofs.Tests.{and-false-right, and-both}
 use Rattle.lists.proofs.Overwrite.{overwrite-none, overwrite-length}
 use Rattle.lists.proofs.Parts.{overwrite-next}
+use Rattle.measure.specs.Tag.{tagOf}
 use Rattle.treap.specs.Image.{countBytes}
-use Rattle.image.specs.Layout.{headerBytes, blockBytes, nodeBytes, heldAt}
-use Rattle.image.specs.Image.{numberOf, fieldAt, nodeKeys, blockKeys}
-use Rattle.image_collect.specs.declared.Collected.{Collected}
+use Rattle.table.specs.Contents.{Entry, entryKeys}
+use Rattle.table.specs.Tags.{entryTags}
+use Rattle.image.specs.Layout.{headerBytes, blockBytes, heldAt}
+use Rattle.image.specs.Image.{fieldAt, nodeEntries, nodesSpan, blockEntries}
 use Rattle.image_collect.specs.declared.Collected.the-variants.{Keys, Broken}
-use Rattle.image_collect.specs.Reading.{marked, blockSpan, intact, blocksOf, keysOf, readable, collected}
-use Rattle.image_collect.proofs.Marks.{nodeKeys-length}
+use Rattle.image_collect.specs.Reading.{areNodes, intact, blocksOf, entriesOf, readable, collected}
+use Rattle.image_collect.proofs.Nodes.{entries-number, nodes-inside}
+use Rattle.image_collect.proofs.Passing.{field-from}
 
--- The field of the bytes from an index on is one of the bytes.
-field-from : (from at width : ℕ) (bytes : List ℕ) → fieldAt at width (drop from bytes) ≡ fieldAt (from + at) width bytes
-unfolding fieldAt
-field-from from at width bytes = ap (λ (l : List ℕ). numberOf (take width l)) (drop-drop at from bytes)
+-- a block's entries written down after those of the blocks before it
+written-next : (f : Entry → ℕ) (before list : List ℕ) (n : ℕ) (done : List Entry) → list ≡ overwrite before 0 (map f done) → n ≡ length done
+    → (new : List Entry) → n + length new ≤ length before → (after : List ℕ) → after ≡ overwrite list n (map f new)
+    → after ≡ overwrite before 0 (map f (done ++ new))
+written-next f before list n done holds many new fits after e =
+    let first = length-map done f in
+    let second = length-map new f in
+    e
+    ∙ ap (λ (l : List ℕ). overwrite l n (map f new)) holds
+    ∙ overwrite-next 0 n (map f done) before (omega arith) (omega arith) (map f new) (omega arith)
+    ∙ ap (overwrite before 0) (sym (map-append f done new))
 
-module _ (bytes before : List ℕ) where
-  -- The keys of the first `j` blocks stand in `keys`, `n` of them; the next block begins at byte `at`.
-  pub record Walked (keys : List ℕ) (at n j : ℕ) : Type 0 where
-    pub done : List ℕ
+module _ (bytes keys-before tags-before : List ℕ) where
+  -- The entries of the first `j` blocks stand in `keys` and `tags`, `n` of them; the next block begins at byte `at`.
+  pub record Walked (keys tags : List ℕ) (at n j : ℕ) : Type 0 where
+    pub done : List Entry
     pub upto : j ≤ blocksOf bytes
     pub within : at ≤ length bytes
     pub count : n ≡ length done
-    pub fits : n ≤ length before
-    pub keys-rest : keysOf bytes ≡ done ++ blockKeys (blocksOf bytes - j) (drop at bytes)
+    pub fits : n ≤ length keys-before
+    pub entries-rest : entriesOf bytes ≡ done ++ blockEntries (blocksOf bytes - j) (drop at bytes)
     pub intact-rest : intact (blocksOf bytes) (drop headerBytes bytes) ≡ intact (blocksOf bytes - j) (drop at bytes)
-    pub holds : keys ≡ overwrite before 0 done
+    pub keys-hold : keys ≡ overwrite keys-before 0 (entryKeys done)
+    pub tags-hold : tags ≡ overwrite tags-before 0 (entryTags done)
 
-  pub broken : readable (length before) bytes ≡ false → Broken ≡ collected (length before) bytes
+  pub broken : readable (length keys-before) bytes ≡ false → Broken ≡ collected (length keys-before) bytes
   unfolding collected
   broken e = rw e
 
-  pub no-header : length bytes < headerBytes → readable (length before) bytes ≡ false
+  pub no-header : length bytes < headerBytes → readable (length keys-before) bytes ≡ false
   unfolding readable
   no-header h = rw (lt-leb headerBytes (length bytes) h)
 
-  not-intact : headerBytes ≤ length bytes → intact (blocksOf bytes) (drop headerBytes bytes) ≡ false → readable (length before) bytes ≡ false
+  not-intact : headerBytes ≤ length bytes → intact (blocksOf bytes) (drop headerBytes bytes) ≡ false → readable (length keys-before) bytes ≡ false
   unfolding readable
   not-intact h e = rw (le-leb headerBytes (length bytes) h, e)
 
-  module _ (header : headerBytes ≤ length bytes) where
-    pub walked-none : Walked before headerBytes 0 0
-    unfolding keysOf
+  module _ (header : headerBytes ≤ length bytes) (as-long : length tags-before ≡ length keys-before) where
+    pub walked-none : Walked keys-before tags-before headerBytes 0 0
+    unfolding entriesOf
     walked-none =
         let all : blocksOf bytes - 0 ≡ blocksOf bytes = omega arith in
         record {
@@ -61,14 +72,18 @@ module _ (bytes before : List ℕ) where
           within = header;
           count = refl;
           fits = omega arith;
-          keys-rest = ap (λ (m : ℕ). blockKeys m (drop headerBytes bytes)) (sym all);
+          entries-rest = ap (λ (m : ℕ). blockEntries m (drop headerBytes bytes)) (sym all);
           intact-rest = ap (λ (m : ℕ). intact m (drop headerBytes bytes)) (sym all);
-          holds = sym (overwrite-none before 0);
+          keys-hold = sym (overwrite-none keys-before 0);
+          tags-hold = sym (overwrite-none tags-before 0);
         }
 
-    module _ (keys : List ℕ) (at n j : ℕ) (s : Walked keys at n j) where
-      pub walked-size : length keys ≡ length before
-      walked-size = ap length (s .holds) ∙ overwrite-length before 0 (s .done) (omega (arith, s .count, s .fits))
+    module _ {keys tags : List ℕ} {at n j : ℕ} (s : Walked keys tags at n j) where
+      pub keys-size : length keys ≡ length keys-before
+      keys-size = ap length (s .keys-hold) ∙ overwrite-length keys-before 0 (entryKeys (s .done)) (omega (arith, s .count, s .fits, length-map (s .done) (λ e. e .key)))
+
+      pub tags-size : length tags ≡ length tags-before
+      tags-size = ap length (s .tags-hold) ∙ overwrite-length tags-before 0 (entryTags (s .done)) (omega (arith, s .count, s .fits, length-map (s .done) (λ e. tagOf (e .measure))))
 
       -- ---- a block more
       module _ (more : j < blocksOf bytes) (held : ℕ) (held-is : held ≡ fieldAt (at + heldAt) countBytes bytes) where
@@ -82,85 +97,82 @@ module _ (bytes before : List ℕ) where
         here : fieldAt heldAt countBytes (drop at bytes) ≡ held
         here = field-from at heldAt countBytes bytes ∙ sym held-is
 
-        span : blockSpan (drop at bytes) ≡ blockBytes + nodeBytes * held
-        unfolding blockSpan
-        span = ap (λ (m : ℕ). blockBytes + nodeBytes * m) here
+        -- the block's node records, and what comes after them
+        abbrev nodes : List ℕ
+        nodes = drop (at + blockBytes) bytes
 
-        rest-keys : blockKeys (blocksOf bytes - j) (drop at bytes) ≡ nodeKeys held (drop (at + blockBytes) bytes) ++ blockKeys left (drop (at + blockBytes + nodeBytes * held) bytes)
-        rest-keys =
-            let sum : at + (blockBytes + nodeBytes * held) ≡ at + blockBytes + nodeBytes * held = omega arith in
-            ap (λ (m : ℕ). blockKeys m (drop at bytes)) rest-blocks
-            ∙ ap (λ (m : ℕ). nodeKeys m (drop blockBytes (drop at bytes)) ++ blockKeys left (drop (blockBytes + nodeBytes * m) (drop at bytes))) here
-            ∙ ap₂ (λ (xs ys : List ℕ). nodeKeys held xs ++ blockKeys left ys) (drop-drop blockBytes at bytes)
-            (drop-drop (blockBytes + nodeBytes * held) at bytes ∙ ap (λ (m : ℕ). drop m bytes) sum)
+        abbrev later : List ℕ
+        later = drop (at + blockBytes + nodesSpan held nodes) bytes
 
-        rest-intact : intact (blocksOf bytes - j) (drop at bytes)
-            ≡ (leb (blockBytes + nodeBytes * held) (length (drop at bytes))
-            && (marked held (drop (at + blockBytes) bytes) && intact left (drop (at + blockBytes + nodeBytes * held) bytes)))
+        to-nodes : drop blockBytes (drop at bytes) ≡ nodes
+        to-nodes = drop-drop blockBytes at bytes
+
+        to-later : drop (nodesSpan held nodes) nodes ≡ later
+        to-later = drop-drop (nodesSpan held nodes) (at + blockBytes) bytes
+
+        rest-entries : blockEntries (blocksOf bytes - j) (drop at bytes) ≡ nodeEntries held nodes ++ blockEntries left later
+        rest-entries =
+            ap (λ (m : ℕ). blockEntries m (drop at bytes)) rest-blocks
+            ∙ ap₂ (λ (m : ℕ) (l : List ℕ). nodeEntries m l ++ blockEntries left (drop (nodesSpan m l) l)) here to-nodes
+            ∙ ap (λ (l : List ℕ). nodeEntries held nodes ++ blockEntries left l) to-later
+
+        rest-intact : intact (blocksOf bytes) (drop headerBytes bytes) ≡ (leb blockBytes (length (drop at bytes)) && (areNodes held nodes && intact left later))
         rest-intact =
-            let sum : at + (blockBytes + nodeBytes * held) ≡ at + blockBytes + nodeBytes * held = omega arith in
-            ap (λ (m : ℕ). intact m (drop at bytes)) rest-blocks
-            ∙ ap₂ (λ (w m : ℕ). leb w (length (drop at bytes)) && (marked m (drop blockBytes (drop at bytes)) && intact left (drop w (drop at bytes)))) span here
-            ∙ ap₂ (λ (xs ys : List ℕ). leb (blockBytes + nodeBytes * held) (length (drop at bytes)) && (marked held xs && intact left ys)) (drop-drop blockBytes at bytes)
-            (drop-drop (blockBytes + nodeBytes * held) at bytes ∙ ap (λ (m : ℕ). drop m bytes) sum)
+            s .intact-rest
+            ∙ ap (λ (m : ℕ). intact m (drop at bytes)) rest-blocks
+            ∙ ap₂ (λ (m : ℕ) (l : List ℕ). leb blockBytes (length (drop at bytes)) && (areNodes m l && intact left (drop (nodesSpan m l) l))) here to-nodes
+            ∙ ap (λ (l : List ℕ). leb blockBytes (length (drop at bytes)) && (areNodes held nodes && intact left l)) to-later
 
-        broken-here : leb (blockBytes + nodeBytes * held) (length (drop at bytes)) ≡ false → readable (length before) bytes ≡ false
-        broken-here e =
+        pub short : length bytes - at < blockBytes → readable (length keys-before) bytes ≡ false
+        short h =
             not-intact header
-            (s .intact-rest ∙ rest-intact ∙ ap (λ b. b && (marked held (drop (at + blockBytes) bytes) && intact left (drop (at + blockBytes + nodeBytes * held) bytes))) e)
+            (rest-intact ∙ ap (λ (b : Bool). b && (areNodes held nodes && intact left later)) (lt-leb blockBytes (length (drop at bytes)) (omega (arith, length-drop at bytes))))
 
-        pub short : length bytes - at < blockBytes + nodeBytes * held → readable (length before) bytes ≡ false
-        short h = broken-here (lt-leb (blockBytes + nodeBytes * held) (length (drop at bytes)) (omega (arith, length-drop at bytes)))
-
-        pub no-mark : marked held (drop (at + blockBytes) bytes) ≡ false → readable (length before) bytes ≡ false
-        no-mark e =
+        pub no-nodes : areNodes held nodes ≡ false → readable (length keys-before) bytes ≡ false
+        no-nodes e =
             not-intact header
-            (s .intact-rest ∙ rest-intact
-            ∙ and-false-right (leb (blockBytes + nodeBytes * held) (length (drop at bytes))) _
-            (ap (λ b. b && intact left (drop (at + blockBytes + nodeBytes * held) bytes)) e))
+            (rest-intact ∙ and-false-right (leb blockBytes (length (drop at bytes))) _ (ap (λ (b : Bool). b && intact left later) e))
 
-        pub too-many : length before - n < held → readable (length before) bytes ≡ false
+        pub too-many : length keys-before - n < held → readable (length keys-before) bytes ≡ false
         unfolding readable
         too-many h =
-            let nodes = nodeKeys held (drop (at + blockBytes) bytes) in
-            let later = blockKeys left (drop (at + blockBytes + nodeBytes * held) bytes) in
-            let many : length (keysOf bytes) ≡ length (s .done) + (length nodes + length later) =
-            ap length (s .keys-rest ∙ ap (λ (xs : List ℕ). s .done ++ xs) rest-keys)
-            ∙ length-append (s .done) (nodes ++ later)
-            ∙ ap (λ (m : ℕ). length (s .done) + m) (length-append nodes later)
+            let these = nodeEntries held nodes in
+            let others = blockEntries left later in
+            let many : length (entriesOf bytes) ≡ length (s .done) + (length these + length others) =
+            ap length (s .entries-rest ∙ ap (λ (es : List Entry). s .done ++ es) rest-entries)
+            ∙ length-append (s .done) (these ++ others)
+            ∙ ap (λ (m : ℕ). length (s .done) + m) (length-append these others)
             in
             and-false-right (leb headerBytes (length bytes)) _
-            (and-false-right (intact (blocksOf bytes) (drop headerBytes bytes)) (leb (length (keysOf bytes)) (length before))
-            (lt-leb (length (keysOf bytes)) (length before) (omega (arith, many, s .count, s .fits, nodeKeys-length (drop (at + blockBytes) bytes) held))))
+            (and-false-right (intact (blocksOf bytes) (drop headerBytes bytes)) (leb (length (entriesOf bytes)) (length keys-before))
+            (lt-leb (length (entriesOf bytes)) (length keys-before) (omega (arith, many, s .count, s .fits, entries-number held nodes))))
 
-        pub walked-more : blockBytes + nodeBytes * held ≤ length bytes - at → held ≤ length before - n → marked held (drop (at + blockBytes) bytes) ≡ true
-            → (after : List ℕ) → after ≡ overwrite keys n (nodeKeys held (drop (at + blockBytes) bytes))
-            → Walked after (at + blockBytes + nodeBytes * held) (n + held) (suc j)
+        pub walked-more : blockBytes ≤ length bytes - at → held ≤ length keys-before - n → areNodes held nodes ≡ true
+            → (keys-after tags-after : List ℕ) → keys-after ≡ overwrite keys n (entryKeys (nodeEntries held nodes)) → tags-after ≡ overwrite tags n (entryTags (nodeEntries held nodes))
+            → (span : ℕ) → span ≡ nodesSpan held nodes → Walked keys-after tags-after (at + blockBytes + span) (n + held) (suc j)
         unfolding left
-        walked-more inside room marks after e =
-            let nodes = nodeKeys held (drop (at + blockBytes) bytes) in
-            let many = nodeKeys-length (drop (at + blockBytes) bytes) held in
-            let both = length-append (s .done) nodes in
+        walked-more inside room right keys-after tags-after keys-are tags-are span ends =
+            let these = nodeEntries held nodes in
+            let many = entries-number held nodes in
+            let both = length-append (s .done) these in
+            let end : later ≡ drop (at + blockBytes + span) bytes = ap (λ (m : ℕ). drop (at + blockBytes + m) bytes) (sym ends) in
             record {
-              done = s .done ++ nodes;
+              done = s .done ++ these;
               upto = more;
-              within = omega (arith, s .within);
+              within = omega (arith, s .within, ends, nodes-inside held nodes right, length-drop (at + blockBytes) bytes);
               count = omega (arith, s .count);
               fits = omega (arith, s .fits);
-              keys-rest =
-                  s .keys-rest
-                  ∙ ap (λ (xs : List ℕ). s .done ++ xs) rest-keys
-                  ∙ sym (append-assoc (s .done) nodes (blockKeys left (drop (at + blockBytes + nodeBytes * held) bytes)));
+              entries-rest =
+                  s .entries-rest
+                  ∙ ap (λ (es : List Entry). s .done ++ es) rest-entries
+                  ∙ sym (append-assoc (s .done) these (blockEntries left later))
+                  ∙ ap (λ (l : List ℕ). (s .done ++ these) ++ blockEntries left l) end;
               intact-rest =
-                  s .intact-rest ∙ rest-intact
-                  ∙ ap₂ (λ b d. b && (d && intact left (drop (at + blockBytes + nodeBytes * held) bytes)))
-                  (le-leb (blockBytes + nodeBytes * held) (length (drop at bytes)) (omega (arith, length-drop at bytes))) marks;
-              holds =
-                  e
-                  ∙ ap (λ (l : List ℕ). overwrite l n nodes) (s .holds)
-                  ∙ ap (λ (m : ℕ). overwrite (overwrite before 0 (s .done)) m nodes) (s .count)
-                  ∙ overwrite-next 0 (length (s .done)) (s .done) before (omega arith) (omega (arith, s .count, s .fits)) nodes
-                  (omega (arith, s .count, s .fits));
+                  rest-intact
+                  ∙ ap₂ (λ (b d : Bool). b && (d && intact left later)) (le-leb blockBytes (length (drop at bytes)) (omega (arith, length-drop at bytes))) right
+                  ∙ ap (intact left) end;
+              keys-hold = written-next (λ e. e .key) keys-before keys n (s .done) (s .keys-hold) (s .count) these (omega (arith, s .fits)) keys-after keys-are;
+              tags-hold = written-next (λ e. tagOf (e .measure)) tags-before tags n (s .done) (s .tags-hold) (s .count) these (omega (arith, s .fits)) tags-after tags-are;
             }
 
       -- ---- no block more
@@ -168,20 +180,23 @@ module _ (bytes before : List ℕ) where
         none-left : blocksOf bytes - j ≡ 0
         none-left = omega (arith, s .upto)
 
-        all-done : keysOf bytes ≡ s .done
-        all-done = s .keys-rest ∙ ap (λ (m : ℕ). s .done ++ blockKeys m (drop at bytes)) none-left ∙ append-nil (s .done)
+        all-done : entriesOf bytes ≡ s .done
+        all-done = s .entries-rest ∙ ap (λ (m : ℕ). s .done ++ blockEntries m (drop at bytes)) none-left ∙ append-nil (s .done)
 
-        pub can-be-read : readable (length before) bytes ≡ true
+        can-be-read : readable (length keys-before) bytes ≡ true
         unfolding readable
         can-be-read =
             and-both (leb headerBytes (length bytes)) _ (le-leb headerBytes (length bytes) header)
-            (and-both (intact (blocksOf bytes) (drop headerBytes bytes)) (leb (length (keysOf bytes)) (length before))
+            (and-both (intact (blocksOf bytes) (drop headerBytes bytes)) (leb (length (entriesOf bytes)) (length keys-before))
             (s .intact-rest ∙ ap (λ (m : ℕ). intact m (drop at bytes)) none-left)
-            (le-leb (length (keysOf bytes)) (length before) (omega (arith, ap length all-done, s .count, s .fits))))
+            (le-leb (length (entriesOf bytes)) (length keys-before) (omega (arith, ap length all-done, s .count, s .fits))))
 
-        pub counted : Keys n ≡ collected (length before) bytes
+        pub counted : Keys n ≡ collected (length keys-before) bytes
         unfolding collected
         counted = rw can-be-read (ap Keys (s .count ∙ sym (ap length all-done)))
 
-        pub collects : keys ≡ overwrite before 0 (keysOf bytes)
-        collects = s .holds ∙ ap (overwrite before 0) (sym all-done)
+        pub keys-collected : keys ≡ overwrite keys-before 0 (entryKeys (entriesOf bytes))
+        keys-collected = s .keys-hold ∙ ap (λ (es : List Entry). overwrite keys-before 0 (entryKeys es)) (sym all-done)
+
+        pub tags-collected : tags ≡ overwrite tags-before 0 (entryTags (entriesOf bytes))
+        tags-collected = s .tags-hold ∙ ap (λ (es : List Entry). overwrite tags-before 0 (entryTags es)) (sym all-done)

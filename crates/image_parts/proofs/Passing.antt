@@ -2,26 +2,25 @@
 -- Assumes nothing.
 use mathlib.Core.List.{List, [], _++_, flatMap, append-nil, append-assoc}
 use mathlib.Core.Path.{_≡_, refl, sym, ap, _∙_}
-use Prim.Native.Nat.{ℕ, _+_, _*_, _-_, _≤_}
+use Prim.Native.Nat.{ℕ, _+_, _≤_}
 use native.Mathlib.Omega.{arith}
 use lib.ListN.{length, drop, length-append, drop-of-length-le}
-use lib.Seq.{slice, length-slice}
+use lib.Seq.{slice}
 use Rattle.lists.specs.Lists.{overwrite}
 use Rattle.lists.proofs.Overwrite.{overwrite-none, overwrite-length}
 use Rattle.lists.proofs.Parts.{overwrite-next}
-use Rattle.image.specs.Layout.{headerBytes, blockBytes, nodeBytes}
+use Rattle.image.specs.Layout.{headerBytes}
 use Rattle.table_encode.specs.Encode.{Columns}
 use Rattle.image_blocks.specs.Runs.{RunEnds}
 use Rattle.image_parts.specs.Parts.{blockAt, blocksAt}
-use Rattle.image_parts.proofs.Nodes.{block-at-length}
 
-module _ (keys : List ℕ) (root : ℕ) (c : Columns) (weights : List ℕ) where
+module _ (keys tags : List ℕ) (root : ℕ) (c : Columns) (weights : List ℕ) where
   -- The output once the parts of the blocks before index `low` are written, up to byte `at`.
   pub record BlocksPut (sorted before output : List ℕ) (low at : ℕ) : Type 0 where
     pub done : List ℕ
     pub upto : low ≤ length sorted
     pub here : at ≡ headerBytes + length done
-    pub whole : blocksAt keys root c weights sorted ≡ done ++ blocksAt keys root c weights (drop low sorted)
+    pub whole : blocksAt keys tags root c weights sorted ≡ done ++ blocksAt keys tags root c weights (drop low sorted)
     pub size : length output ≡ length before
     pub holds : output ≡ overwrite before headerBytes done
 
@@ -31,35 +30,30 @@ module _ (keys : List ℕ) (root : ℕ) (c : Columns) (weights : List ℕ) where
 
   -- the part of the first block, and the rest
   part-next : (sorted : List ℕ) (low high : ℕ) → RunEnds weights sorted low high
-      → blocksAt keys root c weights (drop low sorted) ≡ blockAt keys root c (slice low high sorted) ++ blocksAt keys root c weights (drop high sorted)
+      → blocksAt keys tags root c weights (drop low sorted) ≡ blockAt keys tags root c (slice low high sorted) ++ blocksAt keys tags root c weights (drop high sorted)
   unfolding blocksAt flatMap
-  part-next sorted low high ends = ap (flatMap (blockAt keys root c)) (ends .first)
+  part-next sorted low high ends = ap (flatMap (blockAt keys tags root c)) (ends .first)
 
   module _ (sorted before output : List ℕ) (low at : ℕ) (put : BlocksPut sorted before output low at) where
     module _ (high : ℕ) (ends : RunEnds weights sorted low high) where
       abbrev part : List ℕ
-      part = blockAt keys root c (slice low high sorted)
+      part = blockAt keys tags root c (slice low high sorted)
 
-      part-length : length part ≡ blockBytes + nodeBytes * (high - low)
-      part-length =
-          block-at-length keys root c (slice low high sorted) ∙ ap (λ (n : ℕ). blockBytes + nodeBytes * n) (length-slice low high sorted (ends .within))
-
-      whole-next : blocksAt keys root c weights sorted ≡ (put .done ++ part) ++ blocksAt keys root c weights (drop high sorted)
+      whole-next : blocksAt keys tags root c weights sorted ≡ (put .done ++ part) ++ blocksAt keys tags root c weights (drop high sorted)
       whole-next =
           put .whole ∙ ap (λ (xs : List ℕ). put .done ++ xs) (part-next sorted low high ends)
-          ∙ sym (append-assoc (put .done) part (blocksAt keys root c weights (drop high sorted)))
+          ∙ sym (append-assoc (put .done) part (blocksAt keys tags root c weights (drop high sorted)))
 
-      pub blocks-room : headerBytes + length (blocksAt keys root c weights sorted) ≤ length before → at + blockBytes + nodeBytes * (high - low) ≤ length before
+      pub blocks-room : headerBytes + length (blocksAt keys tags root c weights sorted) ≤ length before → at + length part ≤ length before
       blocks-room room =
           let here = put .here in
-          let rest = blocksAt keys root c weights (drop high sorted) in
-          omega (arith, part-length, ap length whole-next, length-append (put .done ++ part) rest, length-append (put .done) part)
+          let rest = blocksAt keys tags root c weights (drop high sorted) in
+          omega (arith, ap length whole-next, length-append (put .done ++ part) rest, length-append (put .done) part)
 
-      pub blocks-more : headerBytes + length (blocksAt keys root c weights sorted) ≤ length before
-          → BlocksPut sorted before (overwrite output at part) high (at + blockBytes + nodeBytes * (high - low))
+      pub blocks-more : headerBytes + length (blocksAt keys tags root c weights sorted) ≤ length before
+          → BlocksPut sorted before (overwrite output at part) high (at + length part)
       blocks-more room =
           let here = put .here in
-          let long = part-length in
           let fits = blocks-room room in
           let same = put .size in
           record {
@@ -73,9 +67,9 @@ module _ (keys : List ℕ) (root : ℕ) (c : Columns) (weights : List ℕ) where
                 ∙ overwrite-next headerBytes at (put .done) before (omega arith) (omega arith) part (omega arith);
           }
 
-    pub blocks-all : length sorted ≤ low → output ≡ overwrite before headerBytes (blocksAt keys root c weights sorted)
+    pub blocks-all : length sorted ≤ low → output ≡ overwrite before headerBytes (blocksAt keys tags root c weights sorted)
     unfolding blocksAt flatMap
     blocks-all h =
         put .holds
         ∙ ap (overwrite before headerBytes)
-        (sym (put .whole ∙ ap (λ (xs : List ℕ). put .done ++ blocksAt keys root c weights xs) (drop-of-length-le sorted h) ∙ append-nil (put .done)))
+        (sym (put .whole ∙ ap (λ (xs : List ℕ). put .done ++ blocksAt keys tags root c weights xs) (drop-of-length-le sorted h) ∙ append-nil (put .done)))

@@ -5,15 +5,17 @@ use mathlib.Core.Path.{_≡_, refl, ap, ap₂, _∙_}
 use Prim.Native.Nat.{ℕ, suc, _+_, _*_, _≤_}
 use native.Mathlib.Omega.{arith}
 use lib.ListN.{length, length-append}
-use Rattle.lists.specs.Lists.{overwrite, joinRun, runs}
+use Rattle.lists.specs.Lists.{keep, overwrite, joinRun, runs}
+use Rattle.lists.proofs.Keep.{length-keep}
+use Rattle.lists.proofs.FlatMap.{flatMap-append}
 use Rattle.lists.proofs.Parts.{overwrite-next}
 use Rattle.treap.specs.Image.{headerRecord}
-use Rattle.image.specs.Layout.{headerBytes, blockBytes, nodeBytes}
+use Rattle.image.specs.Layout.{headerBytes, blockBytes, nodeBytes, measureBytes}
 use Rattle.table_encode.specs.Encode.{Columns, keyAt}
 use Rattle.image.proofs.Records.{header-length}
 use Rattle.image_blocks.specs.Naming.{sameWeight}
-use Rattle.image_parts.specs.Parts.{blockAt, blocksAt, imageAt}
-use Rattle.image_parts.proofs.Nodes.{block-at-length}
+use Rattle.image_parts.specs.Parts.{nodeAt, measuredAt, blockAt, blocksAt, imageAt}
+use Rattle.image_parts.proofs.Nodes.{nodes-length, block-at-length}
 
 -- ---- runs: together they are the list, and they are no more than its elements
 module _ (alike : ℕ → ℕ → Bool) where
@@ -45,44 +47,59 @@ module _ (alike : ℕ → ℕ → Bool) where
   runs-few [] = omega arith
   runs-few (x ∷ xs) = omega (arith, joined-few x (runs alike xs), runs-few xs)
 
-module _ (order : ℕ) (keys : List ℕ) (root : ℕ) (c : Columns) (weights sorted : List ℕ) where
+module _ (order : ℕ) (keys tags : List ℕ) (root : ℕ) (c : Columns) (weights sorted : List ℕ) where
+  abbrev node : ℕ → List ℕ
+  node = nodeAt keys tags (c .left) (c .right) (c .rank) (c .count)
+
   -- ---- lengths
-  parts-length : (rs : List (List ℕ)) → length (flatMap (blockAt keys root c) rs) ≡ blockBytes * length rs + nodeBytes * length (flatMap (λ r. r) rs)
+  parts-length : (rs : List (List ℕ)) → length (flatMap (blockAt keys tags root c) rs) ≡ blockBytes * length rs + length (flatMap node (flatMap (λ r. r) rs))
   unfolding flatMap
   parts-length [] = refl
   parts-length (r ∷ rs) =
-      length-append (blockAt keys root c r) (flatMap (blockAt keys root c) rs)
-      ∙ omega (arith, block-at-length keys root c r, parts-length rs, length-append r (flatMap (λ s. s) rs))
+      let apart = ap length (flatMap-append node r (flatMap (λ s. s) rs)) in
+      length-append (blockAt keys tags root c r) (flatMap (blockAt keys tags root c) rs)
+      ∙ omega (arith, apart, length-append (flatMap node r) (flatMap node (flatMap (λ s. s) rs)), block-at-length keys tags root c r, parts-length rs)
 
-  blocks-length : length (blocksAt keys root c weights sorted) ≡ blockBytes * length (runs (sameWeight weights) sorted) + nodeBytes * length sorted
+  blocks-length : length (blocksAt keys tags root c weights sorted)
+      ≡ blockBytes * length (runs (sameWeight weights) sorted) + nodeBytes * length sorted + measureBytes * length (keep (measuredAt tags) sorted)
   unfolding blocksAt
   blocks-length =
-      parts-length (runs (sameWeight weights) sorted)
-      ∙ ap (λ (xs : List ℕ). blockBytes * length (runs (sameWeight weights) sorted) + nodeBytes * length xs) (runs-whole (sameWeight weights) sorted)
+      omega (
+        arith,
+        parts-length (runs (sameWeight weights) sorted),
+        ap (λ (xs : List ℕ). length (flatMap node xs)) (runs-whole (sameWeight weights) sorted),
+        nodes-length keys tags (c .left) (c .right) (c .rank) (c .count) sorted,
+      )
 
-  module _ (blocks : ℕ) (counted : blocks ≡ length (runs (sameWeight weights) sorted)) (all : length sorted ≡ length keys) where
-    pub image-at-length : headerBytes + blockBytes * blocks + nodeBytes * length keys ≡ length (imageAt order keys root c weights sorted)
+  module _ (blocks measured : ℕ) (counted : blocks ≡ length (runs (sameWeight weights) sorted)) (found : measured ≡ length (keep (measuredAt tags) sorted)) (all : length sorted ≡ length keys) where
+    abbrev size : ℕ
+    size = headerBytes + blockBytes * blocks + nodeBytes * length keys + measureBytes * measured
+
+    pub image-at-length : size ≡ length (imageAt order keys tags root c weights sorted)
     unfolding imageAt
     image-at-length =
         let head = headerRecord order (length keys) (length (runs (sameWeight weights) sorted)) (keyAt keys root) in
-        omega (arith, blocks-length, length-append head (blocksAt keys root c weights sorted), header-length order (length keys) (length (runs (sameWeight weights) sorted)) (keyAt keys root))
+        omega (arith, blocks-length, length-append head (blocksAt keys tags root c weights sorted), header-length order (length keys) (length (runs (sameWeight weights) sorted)) (keyAt keys root))
 
     pub blocks-few : blocks ≤ length keys
     blocks-few = omega (arith, runs-few (sameWeight weights) sorted)
 
+    pub measured-few : measured ≤ length keys
+    measured-few = omega (arith, length-keep (measuredAt tags) sorted)
+
     -- the blocks have room behind the header
-    pub blocks-fit : (room : ℕ) → headerBytes + blockBytes * blocks + nodeBytes * length keys ≤ room → headerBytes + length (blocksAt keys root c weights sorted) ≤ room
+    pub blocks-fit : (room : ℕ) → size ≤ room → headerBytes + length (blocksAt keys tags root c weights sorted) ≤ room
     blocks-fit room h = omega (arith, blocks-length)
 
     -- ---- the header, then the blocks
-    pub image-written : (before headed output : List ℕ) (top : ℕ) → top ≡ keyAt keys root → headerBytes + blockBytes * blocks + nodeBytes * length keys ≤ length before
+    pub image-written : (before headed output : List ℕ) (top : ℕ) → top ≡ keyAt keys root → size ≤ length before
         → headed ≡ overwrite before 0 (headerRecord order (length keys) blocks top)
-        → output ≡ overwrite headed headerBytes (blocksAt keys root c weights sorted)
-        → output ≡ overwrite before 0 (imageAt order keys root c weights sorted)
+        → output ≡ overwrite headed headerBytes (blocksAt keys tags root c weights sorted)
+        → output ≡ overwrite before 0 (imageAt order keys tags root c weights sorted)
     unfolding imageAt
     image-written before headed output top e room h o =
         let head = headerRecord order (length keys) blocks top in
-        let rest = blocksAt keys root c weights sorted in
+        let rest = blocksAt keys tags root c weights sorted in
         o
         ∙ ap (λ (xs : List ℕ). overwrite xs headerBytes rest) h
         ∙ overwrite-next 0 headerBytes head before (omega (arith, header-length order (length keys) blocks top)) (omega arith) rest (omega (arith, blocks-length))

@@ -1,13 +1,15 @@
 -- What the answer of recognizing says. Assumes nothing.
 use mathlib.Core.Bool.{Bool, true, false, cond}
 use mathlib.Core.List.{List}
-use mathlib.Core.Path.{_≡_, refl, sym, ap, _∙_, subst}
+use mathlib.Core.Path.{_≡_, refl, sym, ap, _∙_, subst, subst₂}
 use Prim.Native.Nat.{ℕ, _≤_}
 use native.Mathlib.Omega.{arith}
 use lib.ListN.{length}
 use Rattle.treap.specs.Image.{orderBytes}
 use Rattle.table.specs.Layout.{mostSlots}
-use Rattle.table.specs.Contents.{Valid}
+use Rattle.table.specs.Contents.{Valid, keysIn}
+use Rattle.table.specs.Tags.{tagsIn, Beside}
+use Rattle.table.proofs.Tagged.{tags-beside}
 use Rattle.table_prepare.specs.Prepared.{Keys}
 use Rattle.table_prepare.proofs.Writable.{valid-keys}
 use Rattle.image.specs.Layout.{headerBytes, orderAt}
@@ -33,22 +35,25 @@ says-cond false n = refl
 module _ (bytes : List ℕ) where
   pub told-image : (n : ℕ) → recognized bytes ≡ Image n → isImage bytes ≡ true
   unfolding recognized
-  told-image n e = sym (says-cond (isImage bytes) (length (readImage bytes .keys))) ∙ ap says e
+  told-image n e = sym (says-cond (isImage bytes) (length (keysIn (readImage bytes)))) ∙ ap says e
 
   pub told-other : recognized bytes ≡ Other → isImage bytes ≡ false
   unfolding recognized
-  told-other e = sym (says-cond (isImage bytes) (length (readImage bytes .keys))) ∙ ap says e
+  told-other e = sym (says-cond (isImage bytes) (length (keysIn (readImage bytes)))) ∙ ap says e
 
-  pub told-number : (n : ℕ) → recognized bytes ≡ Image n → n ≡ length (readImage bytes .keys)
+  pub told-number : (n : ℕ) → recognized bytes ≡ Image n → n ≡ length (keysIn (readImage bytes))
   unfolding recognized
-  told-number n e = sym (ap sizeIn e) ∙ ap (λ b. sizeIn (cond b (Image (length (readImage bytes .keys))) Other)) (told-image n e)
+  told-number n e = sym (ap sizeIn e) ∙ ap (λ b. sizeIn (cond b (Image (length (keysIn (readImage bytes)))) Other)) (told-image n e)
 
-  -- the order and the keys of an image can be written
-  pub image-keys : Valid mostSlots (readImage bytes) → (order : ℕ) → order ≡ fieldAt orderAt orderBytes bytes → (keys : List ℕ) → keys ≡ readImage bytes .keys
+  -- the order and the keys of an image can be written, with the tags beside them
+  pub image-keys : Valid mostSlots (readImage bytes) → (order : ℕ) → order ≡ fieldAt orderAt orderBytes bytes → (keys : List ℕ) → keys ≡ keysIn (readImage bytes)
       → Keys order keys
   unfolding readImage
   image-keys valid order e keys f =
-      subst (Keys order) (sym f) (subst (λ (α : ℕ). Keys α (readImage bytes .keys)) (sym e) (valid-keys mostSlots (readImage bytes) (omega arith) valid))
+      subst (Keys order) (sym f) (subst (λ (α : ℕ). Keys α (keysIn (readImage bytes))) (sym e) (valid-keys mostSlots (readImage bytes) (omega arith) valid))
+
+  pub image-beside : Valid mostSlots (readImage bytes) → (keys tags : List ℕ) → keys ≡ keysIn (readImage bytes) → tags ≡ tagsIn (readImage bytes) → Beside keys tags
+  image-beside valid keys tags e f = subst₂ Beside (sym e) (sym f) (tags-beside (readImage bytes .entries) (valid .measures-right))
 
   pub image-header : Valid mostSlots (readImage bytes) → isImage bytes ≡ true → headerBytes ≤ length bytes
   image-header valid one = omega (arith, ap length (is-image-exactly bytes one), image-length (readImage bytes) valid)

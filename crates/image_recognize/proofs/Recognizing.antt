@@ -1,25 +1,31 @@
 -- What the tests of recognizing say of the bytes. Assumes that they are bytes.
 use mathlib.Core.Bool.{Bool, true, false, cond, _&&_}
-use mathlib.Core.List.{List}
+use mathlib.Core.List.{List, _++_, append-nil, Permᴰ·symm}
 use mathlib.Core.Logic.{_≢_}
-use mathlib.Core.Path.{_≡_, refl, sym, ap, ap₂, _∙_}
+use mathlib.Core.Path.{_≡_, refl, sym, ap, ap₂, _∙_, subst}
 use Prim.Native.Nat.{ℕ, _<_, _≤_}
 use native.Mathlib.Omega.{arith}
 use lib.Dec.{leb, ltb}
-use lib.ListN.{length, take, drop}
+use lib.ListN.{length, take, drop, length-map}
 use lib.Seq.{drop-length}
-use mathlib.Core.List.{_++_, append-nil}
 use borrow.Author.Tests.{le-leb}
 use Rattle.lists.specs.Lists.{All, same, risesB, every, nonzero, lies, sortBy, overwrite}
 use Rattle.lists.proofs.Tests.{by-test, true-or-false, and-left, and-right, and-both}
+use Rattle.lists.proofs.Keep.{every-when}
+use Rattle.lists.proofs.Sorting.{all-permuted, sortBy-permutes}
 use Rattle.lists.proofs.Sorted.{sorted-length}
 use Rattle.lists.proofs.Start.{starts-with}
 use Rattle.lists.proofs.Overwrite.{overwrite-start}
 use Rattle.lists.proofs.Parts.{overwrite-again}
-use Rattle.priority.specs.Priority.{priorityOf}
-use Rattle.treap.specs.Image.{image, orderBytes}
+use Rattle.measure.specs.Measure.{isMeasure}
+use Rattle.measure.specs.Tag.{tagOf}
+use Rattle.treap.specs.Image.{orderBytes}
 use Rattle.table.specs.Layout.{mostSlots, leastOrder, greatestOrder}
-use Rattle.table.specs.Contents.{tableOrder, risingKeys}
+use Rattle.table.specs.Contents.{Entry, tableOrder, risingKeys, entryKeys, keysIn, keyBelow}
+use Rattle.table.specs.Tags.{entryTags, tagsIn, tagged}
+use Rattle.table.proofs.Entries.{sorted-keys}
+use Rattle.table.proofs.Tagged.{tagged-back}
+use Rattle.table_decode.specs.Decode.{TagsSorted}
 use Rattle.table_decode.proofs.RisingKeys.{rising-says}
 use Rattle.table_prepare.specs.Prepared.{Keys}
 use Rattle.table_prepare.proofs.Writable.{writable}
@@ -28,7 +34,8 @@ use Rattle.image.specs.Image.{imageOf, fieldAt, readImage, isImage}
 use Rattle.image.proofs.Judging.{is-image-says, is-image-exactly}
 use Rattle.image.proofs.Lengths.{image-longest}
 use Rattle.image_parts.specs.Written.{writtenTo}
-use Rattle.image_collect.specs.Reading.{readable, keysOf, blocksOf, collected}
+use Rattle.image_collect.specs.Reading.{readable, entriesOf, blocksOf, collected}
+use Rattle.image_collect.proofs.Readable.{readable-right}
 use Rattle.image_collect.specs.declared.Collected.{Collected}
 use Rattle.image_collect.specs.declared.Collected.the-variants as collecting
 use Rattle.image_recognize.specs.declared.Recognized.the-variants.{Image, Other}
@@ -43,13 +50,22 @@ module _ (bytes : List ℕ) where
   unfolding readImage
   order-is = refl
 
-  pub keys-are : readImage bytes .keys ≡ sortBy ltb (keysOf bytes)
-  unfolding readImage keysOf blocksOf
-  keys-are = refl
+  pub entries-are : readImage bytes .entries ≡ sortBy keyBelow (entriesOf bytes)
+  unfolding readImage entriesOf blocksOf
+  entries-are = refl
 
-  pub shown-image : imageOf (readImage bytes) ≡ image orderShown priorityOf (readImage bytes .keys)
-  unfolding imageOf readImage
-  shown-image = refl
+  pub keys-are : keysIn (readImage bytes) ≡ sortBy ltb (entryKeys (entriesOf bytes))
+  keys-are = ap entryKeys entries-are ∙ sorted-keys (entriesOf bytes)
+
+  -- measures that can be read are within the rules
+  pub shown-right : (room : ℕ) → readable room bytes ≡ true → All (λ e. isMeasure (e .measure) ≡ true) (readImage bytes .entries)
+  shown-right room can =
+      subst (All (λ e. isMeasure (e .measure) ≡ true)) (sym entries-are)
+      (all-permuted (λ e. isMeasure (e .measure) ≡ true) (Permᴰ·symm (sortBy-permutes keyBelow (entriesOf bytes))) (readable-right room bytes can))
+
+  -- the keys with their tags are the set that the bytes show
+  pub shown-tagged : All (λ e. isMeasure (e .measure) ≡ true) (readImage bytes .entries) → tagged orderShown (keysIn (readImage bytes)) (tagsIn (readImage bytes)) ≡ readImage bytes
+  shown-tagged right = λ i. record { order = sym order-is i; entries = tagged-back (readImage bytes .entries) right i }
 
   -- ---- bytes that are no image
   other : isImage bytes ≡ false → Other ≡ recognized bytes
@@ -63,12 +79,12 @@ module _ (bytes : List ℕ) where
   unfolding isImage tableOrder readImage
   wrong-order e = rw e
 
-  pub not-rising : risingKeys (readImage bytes .keys) ≡ false → isImage bytes ≡ false
+  pub not-rising : risingKeys (keysIn (readImage bytes)) ≡ false → isImage bytes ≡ false
   unfolding isImage risingKeys
   not-rising e =
       refuted
       (λ t.
-      let ks = readImage bytes .keys in
+      let ks = keysIn (readImage bytes) in
       let order-passed = and-right (tableOrder (readImage bytes .order)) _ t in
       let rises = and-left (risesB ks) _ order-passed in
       let some = and-left (every nonzero ks) _ (and-right (risesB ks) _ order-passed) in
@@ -82,13 +98,14 @@ module _ (bytes : List ℕ) where
   differs e =
       refuted
       (λ t.
-      let ks = readImage bytes .keys in
+      let ks = keysIn (readImage bytes) in
       true-or-false (same bytes (imageOf (readImage bytes)))
+      (and-right (every (λ e. isMeasure (e .measure)) (readImage bytes .entries)) _
       (and-right (leb (length ks) mostSlots) _
-      (and-right (every nonzero ks) _ (and-right (risesB ks) _ (and-right (tableOrder (readImage bytes .order)) _ t))))
+      (and-right (every nonzero ks) _ (and-right (risesB ks) _ (and-right (tableOrder (readImage bytes .order)) _ t)))))
       e)
 
-  pub too-long : All IsByte bytes → 180239 < length bytes → isImage bytes ≡ false
+  pub too-long : All IsByte bytes → 204815 < length bytes → isImage bytes ≡ false
   too-long sized h =
       refuted
       (λ t.
@@ -98,27 +115,31 @@ module _ (bytes : List ℕ) where
       omega arith)
 
   -- what is answered of them
-  pub stop : isImage bytes ≡ false → (before after : List ℕ)
-      → (Other ≡ recognized bytes) × (isImage bytes ≡ true → after ≡ overwrite before 0 (readImage bytes .keys))
-  stop e before after = (other e, λ t. absurd (true-or-false (isImage bytes) t e))
+  pub stop : isImage bytes ≡ false → (keys tags keys-after tags-after : List ℕ)
+      → (Other ≡ recognized bytes)
+      × ((isImage bytes ≡ true → keys-after ≡ overwrite keys 0 (keysIn (readImage bytes)))
+      × (isImage bytes ≡ true → tags-after ≡ overwrite tags 0 (tagsIn (readImage bytes))))
+  stop e keys tags keys-after tags-after =
+      (other e, ((λ t. absurd (true-or-false (isImage bytes) t e)), λ t. absurd (true-or-false (isImage bytes) t e)))
 
   -- ---- bytes that are one
-  module _ (order : lies leastOrder greatestOrder orderShown ≡ true) (rise : risingKeys (readImage bytes .keys) ≡ true) (few : length (readImage bytes .keys) ≤ mostSlots) where
-    pub can-be-written : Keys orderShown (readImage bytes .keys)
+  module _ (order : lies leastOrder greatestOrder orderShown ≡ true) (rise : risingKeys (keysIn (readImage bytes)) ≡ true) (few : length (keysIn (readImage bytes)) ≤ mostSlots) where
+    pub can-be-written : Keys orderShown (keysIn (readImage bytes))
     can-be-written =
-        let keys = rising-says (readImage bytes .keys) rise in
-        writable orderShown (readImage bytes .keys) order (keys .0) (keys .1) few
+        let keys = rising-says (keysIn (readImage bytes)) rise in
+        writable orderShown (keysIn (readImage bytes)) order (keys .0) (keys .1) few
 
-    pub is-one : same bytes (imageOf (readImage bytes)) ≡ true → isImage bytes ≡ true
+    pub is-one : All (λ e. isMeasure (e .measure) ≡ true) (readImage bytes .entries) → same bytes (imageOf (readImage bytes)) ≡ true → isImage bytes ≡ true
     unfolding isImage tableOrder risingKeys
-    is-one e =
-        let ks = readImage bytes .keys in
+    is-one right e =
+        let ks = keysIn (readImage bytes) in
         and-both (tableOrder (readImage bytes .order)) _ (ap (lies leastOrder greatestOrder) order-is ∙ order)
         (and-both (risesB ks) _ (and-left (risesB ks) (every nonzero ks) rise)
         (and-both (every nonzero ks) _ (and-right (risesB ks) (every nonzero ks) rise)
-        (and-both (leb (length ks) mostSlots) _ (le-leb (length ks) mostSlots few) e)))
+        (and-both (leb (length ks) mostSlots) _ (le-leb (length ks) mostSlots few)
+        (and-both (every (λ e. isMeasure (e .measure)) (readImage bytes .entries)) _ (every-when (λ e. isMeasure (e .measure)) (readImage bytes .entries) right) e))))
 
-  pub accepted : isImage bytes ≡ true → (n : ℕ) → n ≡ length (readImage bytes .keys) → Image n ≡ recognized bytes
+  pub accepted : isImage bytes ≡ true → (n : ℕ) → n ≡ length (keysIn (readImage bytes)) → Image n ≡ recognized bytes
   unfolding recognized
   accepted e n h = rw e (ap Image h)
 
@@ -138,32 +159,55 @@ says-cond false n = refl
 module _ (room : ℕ) (bytes : List ℕ) where
   pub told-readable : (n : ℕ) → collected room bytes ≡ collecting.Keys n → readable room bytes ≡ true
   unfolding collected
-  told-readable n e = sym (says-cond (readable room bytes) (length (keysOf bytes))) ∙ ap says e
+  told-readable n e = sym (says-cond (readable room bytes) (length (entriesOf bytes))) ∙ ap says e
 
   pub told-broken : collected room bytes ≡ collecting.Broken → readable room bytes ≡ false
   unfolding collected
-  told-broken e = sym (says-cond (readable room bytes) (length (keysOf bytes))) ∙ ap says e
+  told-broken e = sym (says-cond (readable room bytes) (length (entriesOf bytes))) ∙ ap says e
 
-  pub told-number : (n : ℕ) → collected room bytes ≡ collecting.Keys n → n ≡ length (keysOf bytes)
+  pub told-number : (n : ℕ) → collected room bytes ≡ collecting.Keys n → n ≡ length (entriesOf bytes)
   unfolding collected
-  told-number n e = sym (ap sizeIn e) ∙ ap (λ b. sizeIn (cond b (collecting.Keys (length (keysOf bytes))) collecting.Broken)) (told-readable n e)
+  told-number n e = sym (ap sizeIn e) ∙ ap (λ b. sizeIn (cond b (collecting.Keys (length (entriesOf bytes))) collecting.Broken)) (told-readable n e)
 
 -- ---- the lists
--- the keys collected, then sorted
-sorted-shown : (bytes lent held : List ℕ) (n : ℕ) → held ≡ overwrite lent 0 (keysOf bytes) → n ≡ length (keysOf bytes)
-    → sortBy ltb (take n held) ≡ readImage bytes .keys
-sorted-shown bytes lent held n e h = ap (sortBy ltb) (starts-with held lent (keysOf bytes) n e (sym h)) ∙ sym (keys-are bytes)
+pub shown-size : (bytes : List ℕ) (n : ℕ) → n ≡ length (entriesOf bytes) → length (keysIn (readImage bytes)) ≡ n
+shown-size bytes n h =
+    ap length (keys-are bytes) ∙ sorted-length (entryKeys (entriesOf bytes)) ∙ length-map (entriesOf bytes) (λ e. e .key) ∙ sym h
 
-pub shown-size : (bytes : List ℕ) (n : ℕ) → n ≡ length (keysOf bytes) → length (readImage bytes .keys) ≡ n
-shown-size bytes n h = ap length (keys-are bytes) ∙ sorted-length (keysOf bytes) ∙ sym h
+pub tags-size : (bytes : List ℕ) → length (tagsIn (readImage bytes)) ≡ length (keysIn (readImage bytes))
+tags-size bytes = length-map (readImage bytes .entries) (λ e. tagOf (e .measure)) ∙ sym (length-map (readImage bytes .entries) (λ e. e .key))
 
--- in place
-pub sorted-over : (bytes lent held sorted : List ℕ) (n : ℕ) → held ≡ overwrite lent 0 (keysOf bytes) → n ≡ length (keysOf bytes) → n ≤ length lent
-    → sorted ≡ overwrite held 0 (sortBy ltb (take n held)) → sorted ≡ overwrite lent 0 (readImage bytes .keys)
-sorted-over bytes lent held sorted n e h room s =
-    s
-    ∙ ap₂ (λ (xs ks : List ℕ). overwrite xs 0 ks) e (sorted-shown bytes lent held n e h)
-    ∙ overwrite-again 0 n (keysOf bytes) lent (omega (arith, h)) room (readImage bytes .keys) (sym h ∙ sym (shown-size bytes n h))
+module _ (bytes : List ℕ) (n : ℕ) (number : n ≡ length (entriesOf bytes)) where
+  keys-many : length (entryKeys (entriesOf bytes)) ≡ n
+  keys-many = length-map (entriesOf bytes) (λ e. e .key) ∙ sym number
+
+  tags-many : length (entryTags (entriesOf bytes)) ≡ n
+  tags-many = length-map (entriesOf bytes) (λ e. tagOf (e .measure)) ∙ sym number
+
+  -- the keys collected, then sorted in place
+  pub sorted-over : (lent held sorted : List ℕ) → held ≡ overwrite lent 0 (entryKeys (entriesOf bytes)) → n ≤ length lent
+      → sorted ≡ overwrite held 0 (sortBy ltb (take n held)) → sorted ≡ overwrite lent 0 (keysIn (readImage bytes))
+  sorted-over lent held sorted e room s =
+      let shown : sortBy ltb (take n held) ≡ keysIn (readImage bytes) =
+      ap (sortBy ltb) (starts-with held lent (entryKeys (entriesOf bytes)) n e keys-many) ∙ sym (keys-are bytes)
+      in
+      s
+      ∙ ap₂ (λ (xs ks : List ℕ). overwrite xs 0 ks) e shown
+      ∙ overwrite-again 0 n (entryKeys (entriesOf bytes)) lent (omega (arith, keys-many)) room (keysIn (readImage bytes)) (keys-many ∙ sym (shown-size bytes n number))
+
+  -- and the tags with them, where the keys rise
+  pub tags-over : (keys-lent keys-held tags-lent tags-held after : List ℕ) → keys-held ≡ overwrite keys-lent 0 (entryKeys (entriesOf bytes))
+      → tags-held ≡ overwrite tags-lent 0 (entryTags (entriesOf bytes)) → n ≤ length tags-lent → risingKeys (keysIn (readImage bytes)) ≡ true
+      → TagsSorted n keys-held tags-held after → after ≡ overwrite tags-lent 0 (tagsIn (readImage bytes))
+  unfolding risingKeys
+  tags-over keys-lent keys-held tags-lent tags-held after keys-are-held tags-are-held room rise sorted =
+      let ks = keysIn (readImage bytes) in
+      sorted (entriesOf bytes) (sym (starts-with keys-held keys-lent (entryKeys (entriesOf bytes)) n keys-are-held keys-many))
+      (sym (starts-with tags-held tags-lent (entryTags (entriesOf bytes)) n tags-are-held tags-many))
+      (ap (λ (es : List Entry). risesB (entryKeys es)) (sym (entries-are bytes)) ∙ and-left (risesB ks) (every nonzero ks) rise)
+      ∙ ap₂ (λ (xs : List ℕ) (es : List Entry). overwrite xs 0 (entryTags es)) tags-are-held (sym (entries-are bytes))
+      ∙ overwrite-again 0 n (entryTags (entriesOf bytes)) tags-lent (omega (arith, tags-many)) room (tagsIn (readImage bytes))
+      (tags-many ∙ sym (tags-size bytes ∙ shown-size bytes n number))
 
 -- bytes written over a list of their length
 pub written-over : (old new : List ℕ) → length new ≡ length old → writtenTo old new ≡ new

@@ -1,13 +1,15 @@
 -- Fields written one after the other make a record. Assumes nothing.
 use mathlib.Core.List.{List, [], _∷_, _++_}
-use mathlib.Core.Path.{_≡_, refl, ap, _∙_}
+use mathlib.Core.Logic.{_≢_}
+use mathlib.Core.Path.{_≡_, refl, ap, _∙_, subst}
 use Prim.Native.Nat.{ℕ, _+_, _≤_}
 use native.Mathlib.Omega.{arith}
 use lib.ListN.{length, set}
+use borrow.Author.Tests.{eq-eqb, ne-eqb}
 use Rattle.lists.specs.Lists.{overwrite}
 use Rattle.lists.proofs.Parts.{set-is, overwrite-more, overwrite-next}
-use Rattle.treap.specs.Image.{littleEndian, orderBytes, countBytes, keyBytes, headerMark, blockMark, nodeMark, headerRecord, blockRecord, nodeRecord}
-use Rattle.image.specs.Layout.{headerBytes, blockBytes, nodeBytes}
+use Rattle.treap.specs.Image.{littleEndian, orderBytes, countBytes, keyBytes, lengthBytes, correctionBytes, headerMark, blockMark, nodeMark, measuredMark, headerRecord, blockRecord, nodeFields, nodeRecord}
+use Rattle.image.specs.Layout.{headerBytes, blockBytes, nodeBytes, measureBytes, recordBytes}
 
 -- the two bytes of a mark
 pub mark-written : (before : List ℕ) (at a b : ℕ) → at + 2 ≤ length before → set (set before at a) (at + 1) b ≡ overwrite before at (a ∷ b ∷ [])
@@ -49,21 +51,56 @@ block-written before marked led leveled output at leader level held h m l v n =
     let f = field-written before at part led (littleEndian countBytes level) leveled 10 refl (omega arith) e v in
     field-written before at (part ++ littleEndian countBytes level) leveled (littleEndian countBytes held) output 12 refl (omega arith) f n
 
-pub node-written : (before marked keyed lefted righted ranked output : List ℕ) (at key left right rank count : ℕ) → at + nodeBytes ≤ length before
-    → marked ≡ overwrite before at nodeMark
+-- the mark and the fields that the record of every key has
+pub fields-written : (before marked keyed lefted righted ranked output : List ℕ) (at kind key left right rank count : ℕ) → at + nodeBytes ≤ length before
+    → marked ≡ overwrite before at (76 ∷ kind ∷ [])
     → keyed ≡ overwrite marked (at + 2) (littleEndian keyBytes key)
     → lefted ≡ overwrite keyed (at + 10) (littleEndian keyBytes left)
     → righted ≡ overwrite lefted (at + 18) (littleEndian keyBytes right)
     → ranked ≡ overwrite righted (at + 26) (littleEndian countBytes rank)
     → output ≡ overwrite ranked (at + 28) (littleEndian countBytes count)
-    → output ≡ overwrite before at (nodeRecord key left right rank count)
-unfolding nodeRecord
-node-written before marked keyed lefted righted ranked output at key left right rank count h m k l r a n =
-    let part = nodeMark ++ littleEndian keyBytes key in
-    let e = field-written before at nodeMark marked (littleEndian keyBytes key) keyed 2 refl (omega arith) m k in
+    → output ≡ overwrite before at ((76 ∷ kind ∷ []) ++ nodeFields key left right rank count)
+unfolding nodeFields
+fields-written before marked keyed lefted righted ranked output at kind key left right rank count h m k l r a n =
+    let mark : List ℕ = 76 ∷ kind ∷ [] in
+    let part = mark ++ littleEndian keyBytes key in
+    let e = field-written before at mark marked (littleEndian keyBytes key) keyed 2 refl (omega arith) m k in
     let f = field-written before at part keyed (littleEndian keyBytes left) lefted 10 refl (omega arith) e l in
     let part = part ++ littleEndian keyBytes left in
     let g = field-written before at part lefted (littleEndian keyBytes right) righted 18 refl (omega arith) f r in
     let part = part ++ littleEndian keyBytes right in
     let i = field-written before at part righted (littleEndian countBytes rank) ranked 26 refl (omega arith) g a in
     field-written before at (part ++ littleEndian countBytes rank) ranked (littleEndian countBytes count) output 28 refl (omega arith) i n
+
+-- ---- a key's record, by whether it is measured
+pub plain-end : (at long : ℕ) → long ≡ 0 → at + nodeBytes ≡ at + recordBytes long
+plain-end at long e = rw (eq-eqb long 0 e)
+
+pub measured-end : (at long : ℕ) → long ≢ 0 → at + nodeBytes + measureBytes ≡ at + recordBytes long
+measured-end at long d = rw (ne-eqb long 0 d) (omega arith)
+
+module _ (before output : List ℕ) (at key left right rank count long stored : ℕ) where
+  pub plain-room : long ≡ 0 → at + recordBytes long ≤ length before → at + nodeBytes ≤ length before
+  plain-room e room = subst (λ (n : ℕ). at + recordBytes n ≤ length before) e room
+
+  pub plain-written : long ≡ 0 → output ≡ overwrite before at (nodeMark ++ nodeFields key left right rank count)
+      → output ≡ overwrite before at (nodeRecord key left right rank count long stored)
+  unfolding nodeRecord
+  plain-written e o = rw (eq-eqb long 0 e) o
+
+  pub measured-room : long ≢ 0 → at + recordBytes long ≤ length before → at + nodeBytes + measureBytes ≤ length before
+  measured-room d room =
+      let same : recordBytes long ≡ nodeBytes + measureBytes = rw (ne-eqb long 0 d) in
+      omega arith
+
+  pub measured-written : (common lengthened : List ℕ) → long ≢ 0 → at + recordBytes long ≤ length before
+      → common ≡ overwrite before at (measuredMark ++ nodeFields key left right rank count)
+      → lengthened ≡ overwrite common (at + 30) (littleEndian lengthBytes long)
+      → output ≡ overwrite lengthened (at + 34) (littleEndian correctionBytes stored)
+      → output ≡ overwrite before at (nodeRecord key left right rank count long stored)
+  unfolding nodeRecord nodeFields
+  measured-written common lengthened d room c l s =
+      let part = measuredMark ++ nodeFields key left right rank count in
+      let fits = measured-room d room in
+      let e = field-written before at part common (littleEndian lengthBytes long) lengthened 30 refl (omega arith) c l in
+      rw (ne-eqb long 0 d) (field-written before at (part ++ littleEndian lengthBytes long) lengthened (littleEndian correctionBytes stored) output 34 refl (omega arith) e s)

@@ -1,12 +1,14 @@
 // The records of an image, each written whole from a byte on.
 ghost use mathlib.Core.Path.{_≡_};
-ghost use mathlib.Core.List.{_∷_, []};
+ghost use mathlib.Core.List.{_∷_, [], _++_};
 ghost use Prim.Native.Nat.{_+_, _≤_};
 ghost use lib.ListN.{length};
 ghost use Rattle.lists.specs.Lists.{overwrite};
-ghost use Rattle.treap.specs.Image.{headerRecord, blockRecord, nodeRecord};
-ghost use Rattle.image.specs.Layout.{headerBytes, blockBytes, nodeBytes};
+ghost use Rattle.treap.specs.Image.{headerRecord, blockRecord, nodeFields, nodeRecord};
+ghost use Rattle.image.specs.Layout.{headerBytes, blockBytes, nodeBytes, recordBytes};
 use image::BLOCKS_AT;
+use image::CORRECTION_AT;
+use image::CORRECTION_BYTES;
 use image::COUNT_AT;
 use image::COUNT_BYTES;
 use image::HELD_AT;
@@ -14,7 +16,11 @@ use image::KEY_AT;
 use image::KEY_BYTES;
 use image::LEADER_AT;
 use image::LEFT_AT;
+use image::LENGTH_AT;
+use image::LENGTH_BYTES;
 use image::LEVEL_AT;
+use image::MEASURE_BYTES;
+use image::NODE_BYTES;
 use image::ORDER_AT;
 use image::ORDER_BYTES;
 use image::RANK_AT;
@@ -30,6 +36,8 @@ const HEADER_MARK: u8 = b'H';
 const BLOCK_MARK: u8 = b'B';
 
 const NODE_MARK: u8 = b'N';
+
+const MEASURED_MARK: u8 = b'M';
 
 // Write the two bytes of a mark, from byte `at` on.
 fn put_mark(output: &mut [u8], at: usize, kind: u8)
@@ -64,7 +72,30 @@ pub fn put_block(output: &mut [u8], at: usize, leader: u64, level: u64, held: u6
     image_fields::put(output, at + HELD_AT, COUNT_BYTES, held);
 }
 
-// Write the record of a key: the key, its links, its rank and its count. Internal to this library's crates: their outputs have room for it.
+// Write a mark and the fields that the record of every key has: the key, its links, its rank and its count.
+fn put_fields(
+    output: &mut [u8],
+    at: usize,
+    kind: u8,
+    key: u64,
+    left: u64,
+    right: u64,
+    rank: u64,
+    count: u64,
+)
+    requires { ⌜ at + nodeBytes ≤ length (now output) ⌝ }
+    ensures { λ _. ⌜ now (output .exit) ≡ overwrite (now (output .entry)) at ((76 ∷ kind ∷ []) ++ nodeFields key left right rank count) ⌝ }
+{
+    put_mark(output, at, kind);
+    image_fields::put(output, at + KEY_AT, KEY_BYTES, key);
+    image_fields::put(output, at + LEFT_AT, KEY_BYTES, left);
+    image_fields::put(output, at + RIGHT_AT, KEY_BYTES, right);
+    image_fields::put(output, at + RANK_AT, COUNT_BYTES, rank);
+    image_fields::put(output, at + COUNT_AT, COUNT_BYTES, count);
+}
+
+// Write the record of a key: the key, its links, its rank and its count, and where it is measured, which is where its length is not 0,
+// the length and the stored correction. The byte after it. Internal to this library's crates: their outputs have room for it.
 pub fn put_node(
     output: &mut [u8],
     at: usize,
@@ -73,14 +104,19 @@ pub fn put_node(
     right: u64,
     rank: u64,
     count: u64,
-)
-    requires { ⌜ at + nodeBytes ≤ length (now output) ⌝ }
-    ensures { λ _. ⌜ now (output .exit) ≡ overwrite (now (output .entry)) at (nodeRecord key left right rank count) ⌝ }
+    long: u64,
+    stored: u64,
+) -> usize
+    requires { ⌜ at + recordBytes long ≤ length (now output) ⌝ }
+    ensures { λ r. ⌜ r ≡ at + recordBytes long ⌝ }
+    ensures { λ _. ⌜ now (output .exit) ≡ overwrite (now (output .entry)) at (nodeRecord key left right rank count long stored) ⌝ }
 {
-    put_mark(output, at, NODE_MARK);
-    image_fields::put(output, at + KEY_AT, KEY_BYTES, key);
-    image_fields::put(output, at + LEFT_AT, KEY_BYTES, left);
-    image_fields::put(output, at + RIGHT_AT, KEY_BYTES, right);
-    image_fields::put(output, at + RANK_AT, COUNT_BYTES, rank);
-    image_fields::put(output, at + COUNT_AT, COUNT_BYTES, count);
+    if long == 0 {
+        put_fields(output, at, NODE_MARK, key, left, right, rank, count);
+        return at + NODE_BYTES;
+    }
+    put_fields(output, at, MEASURED_MARK, key, left, right, rank, count);
+    image_fields::put(output, at + LENGTH_AT, LENGTH_BYTES, long);
+    image_fields::put(output, at + CORRECTION_AT, CORRECTION_BYTES, stored);
+    at + NODE_BYTES + MEASURE_BYTES
 }

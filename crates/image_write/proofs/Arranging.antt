@@ -59,11 +59,12 @@ module _ (order : ℕ) (ks : List ℕ) (right-keys : Keys order ks) (left right 
         leader-low = low lead leaders (filled .leaders) (leader-low ws order (right-keys .wide));
       }
 
-  pub listed : Listed ks left right rank count
-  listed =
+  pub listed : (tags : List ℕ) → length tags ≡ length ks → Listed ks tags left right rank count
+  listed tags same =
       let lefts = leftLink (weightAt ws) (positions m) in
       let rights = rightLink (weightAt ws) (positions m) in
       record {
+        tags-many = same;
         left-long = long left lefts (filled .lefts);
         right-long = long right rights (filled .rights);
         rank-long = long rank (Levels.rank order (weightAt ws) (positions m)) (filled .ranks);

@@ -1,5 +1,6 @@
--- The keys of a rising list by their indices: links, ranks, counts, levels and leaders are what the columns say, and the image's order
--- is that of the blocks' weights. Assumes an order of at least 2, rising keys, none of them zero, and columns as their definitions say.
+-- The keys of a rising list by their indices: links, ranks, counts, levels and leaders are what the columns say, measures what the tags
+-- say, and the image's order is that of the blocks' weights. Assumes an order of at least 2, rising keys, none of them zero, tags beside
+-- them, and columns as their definitions say.
 use mathlib.Core.Bool.{Bool, true, cond, _||_, _&&_}
 use mathlib.Core.List.{List, map}
 use mathlib.Core.Path.{_≡_, sym, ap, ap₂, _∙_, subst}
@@ -16,7 +17,12 @@ use Rattle.lists.proofs.Membership.{all-of-members}
 use Rattle.lists.proofs.UpFrom.{upFrom-rising, upFrom-member, upFrom-within, mapped-upFrom-at, mapped-upFrom-all}
 use Rattle.priority.specs.Priority.{priorityOf}
 use Rattle.sorting.specs.ByWeight.{heavier, byWeight}
+use Rattle.measure.specs.Tag.{measureAt, isTag}
+use Rattle.measure.proofs.Tags.{length-at, stored-at}
 use Rattle.table.specs.Layout.{mostSlots}
+use Rattle.table.specs.Contents.{measureIn}
+use Rattle.table.specs.Tags.{entriesTagged, Beside}
+use Rattle.table.proofs.Tagged.{found-tagged}
 use Rattle.treap.specs.Treap.{top, leftLink, rightLink}
 use Rattle.treap.specs.Levels.{rank, count, leader}
 use Rattle.treap.specs.Blocks.{rootRank}
@@ -68,8 +74,11 @@ module _ (order : ℕ) (wide : 2 ≤ order) (keys : List ℕ) (rising : Rising k
       subst (λ (k : ℕ). member k keys ≡ true) (sym (key-at-suc keys i))
       (all-at (λ k. member k keys ≡ true) keys i 0 (all-of-members (λ k. member k keys ≡ true) keys (λ k m. m)) h)
 
+  measure-by-index : (tags : List ℕ) (i : ℕ) → i < n → measureIn (entriesTagged keys tags) (keyOf keys i) ≡ measureAt (getD tags i 0)
+  measure-by-index tags i h = ap (measureIn (entriesTagged keys tags)) (key-at-suc keys i) ∙ found-tagged keys tags i rising h
+
   pub keys-by-index : map (keyOf keys) (upFrom 0 n) ≡ keys
-  keys-by-index = mapped-upFrom-all (keyOf keys) keys 0 (λ i h. ap (keyOf keys) (zero-add i) ∙ key-at-suc keys i)
+  keys-by-index = mapped-upFrom-all (keyOf keys) keys 0 0 (λ i h. ap (keyOf keys) (zero-add i) ∙ key-at-suc keys i)
 
   module _ (c : Columns) (right : Right order keys c) (root : ℕ) (root-is : root ≡ top q is) (ranked : Ranked n root (c .rank) (c .leader)) where
     pub top-is : top priorityOf keys ≡ keyAt keys root
@@ -79,10 +88,16 @@ module _ (order : ℕ) (wide : 2 ≤ order) (keys : List ℕ) (rising : Rising k
     rank-is : (i : ℕ) → i < n → rank order priorityOf keys (keyOf keys i) ≡ getD (c .rank) i 0
     rank-is = numbered order wide keys rising some c right (rank order) (c .rank) (renamed-ranks (keyAt keys) priorityOf q is rename rise order wide) (right .ranks)
 
-    pub node-by-index : (i : ℕ) → i < n → nodeOf order priorityOf keys (keyOf keys i) ≡ nodeAt keys (c .left) (c .right) (c .rank) (c .count) i
+    pub node-by-index : (tags : List ℕ) → Beside keys tags → (i : ℕ) → i < n
+        → nodeOf order priorityOf (measureIn (entriesTagged keys tags)) keys (keyOf keys i) ≡ nodeAt keys tags (c .left) (c .right) (c .rank) (c .count) i
     unfolding nodeOf nodeAt
-    node-by-index i h =
+    node-by-index tags beside i h =
+        let tag = getD tags i 0 in
+        let many = beside .as-many in
         rw (
+          measure-by-index tags i h,
+          stored-at tag (all-at (λ t. isTag t ≡ true) tags i 0 (beside .right) (omega arith)),
+          length-at tag,
           linked order wide keys rising some c right leftLink (c .left) (renamed-left (keyAt keys) priorityOf q is rename rise) (right .lefts) i h,
           linked order wide keys rising some c right rightLink (c .right) (renamed-right (keyAt keys) priorityOf q is rename rise) (right .rights) i h,
           rank-is i h,

@@ -1,10 +1,11 @@
-// Writing the image of an order and keys.
+// Writing the image of an order and keys with their measures.
 ghost use mathlib.Core.Path.{_≡_};
 ghost use Prim.Native.Nat.{_≤_};
 ghost use lib.ListN.{length};
-ghost use Rattle.priority.specs.Priority.{HoldsConstants, priorityOf};
-ghost use Rattle.treap.specs.Image.{image};
+ghost use Rattle.priority.specs.Priority.{HoldsConstants};
+ghost use Rattle.table.specs.Tags.{tagged, Beside};
 ghost use Rattle.table_prepare.specs.Prepared.{Keys};
+ghost use Rattle.image.specs.Image.{imageOf};
 ghost use Rattle.image_parts.specs.Written.{writtenTo};
 ghost use Rattle.image_write.specs.Arranged.{Arranged};
 use priority::CONSTANT_COUNT;
@@ -46,10 +47,12 @@ fn arrange(
     root
 }
 
-// Write the image of the order and the keys, with lists to work in, each at least as long as the keys; what they then hold is left open.
+// Write the image of the order and the keys with their tags, with lists to work in, each at least as long as the keys; what they then
+// hold is left open.
 fn write_within(
     order: u64,
     keys: &[u64],
+    tags: &[u64],
     weights: &mut [u64],
     sorted: &mut [u16],
     left: &mut [u16],
@@ -61,12 +64,12 @@ fn write_within(
     output: &mut [u8],
     constants: &[u64; CONSTANT_COUNT],
 ) -> usize
-    requires { ⌜ Keys order (now keys) ⌝ }
+    requires { ⌜ Keys order (now keys) × Beside (now keys) (now tags) ⌝ }
     requires { ⌜ (length (now keys) ≤ length (now weights)) × (length (now keys) ≤ length (now sorted)) × (length (now keys) ≤ length (now spare)) ⌝ }
     requires { ⌜ (length (now keys) ≤ length (now left)) × (length (now keys) ≤ length (now right)) ⌝ }
     requires { ⌜ (length (now keys) ≤ length (now rank)) × (length (now keys) ≤ length (now count)) × (length (now keys) ≤ length (now leader)) × HoldsConstants (now constants) ⌝ }
-    ensures { λ r. ⌜ r ≡ length (image order priorityOf (now (keys .entry))) ⌝ }
-    ensures { λ _. ⌜ now (output .exit) ≡ writtenTo (now (output .entry)) (image order priorityOf (now (keys .entry))) ⌝ }
+    ensures { λ r. ⌜ r ≡ length (imageOf (tagged order (now (keys .entry)) (now (tags .entry)))) ⌝ }
+    ensures { λ _. ⌜ now (output .exit) ≡ writtenTo (now (output .entry)) (imageOf (tagged order (now (keys .entry)) (now (tags .entry)))) ⌝ }
 {
     let n = keys.len();
     let root = arrange(
@@ -85,6 +88,7 @@ fn write_within(
     image_parts::emit(
         order,
         keys,
+        tags,
         root,
         left,
         right,
@@ -97,17 +101,18 @@ fn write_within(
     )
 }
 
-// Write the image of the order and the keys to the start of `output` where it has room for it, and no byte where it has not. The
-// image's length, in either case. Internal to this library's crates: they lend the constants of the priorities.
+// Write the image of the order and the keys with their tags to the start of `output` where it has room for it, and no byte where it has
+// not. The image's length, in either case. Internal to this library's crates: they lend the constants of the priorities.
 pub fn write(
     order: u64,
     keys: &[u64],
+    tags: &[u64],
     output: &mut [u8],
     constants: &[u64; CONSTANT_COUNT],
 ) -> usize
-    requires { ⌜ Keys order (now keys) × HoldsConstants (now constants) ⌝ }
-    ensures { λ r. ⌜ r ≡ length (image order priorityOf (now (keys .entry))) ⌝ }
-    ensures { λ _. ⌜ now (output .exit) ≡ writtenTo (now (output .entry)) (image order priorityOf (now (keys .entry))) ⌝ }
+    requires { ⌜ Keys order (now keys) × Beside (now keys) (now tags) × HoldsConstants (now constants) ⌝ }
+    ensures { λ r. ⌜ r ≡ length (imageOf (tagged order (now (keys .entry)) (now (tags .entry)))) ⌝ }
+    ensures { λ _. ⌜ now (output .exit) ≡ writtenTo (now (output .entry)) (imageOf (tagged order (now (keys .entry)) (now (tags .entry)))) ⌝ }
 {
     let mut weights = [0u64; 4096];
     let mut sorted = [0u16; 4096];
@@ -120,6 +125,7 @@ pub fn write(
     write_within(
         order,
         keys,
+        tags,
         &mut weights,
         &mut sorted,
         &mut left,

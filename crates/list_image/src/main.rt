@@ -17,7 +17,7 @@ fn print(buffer: &mut [u8], output: &mut [u8]) {
 }
 
 fn main() {
-    let mut buffer = [0u8; 44016];
-    let mut output = [0u8; 440150];
+    let mut buffer = [0u8; 50016];
+    let mut output = [0u8; 500150];
     print(&mut buffer, &mut output);
 }

@@ -63,8 +63,9 @@ pub mapped-upFrom-at : (f : ℕ → ℕ) (a n i : ℕ) → i < n → getD (map f
 mapped-upFrom-at f a n i h = mapped-at f (upFrom a n) i (omega (arith, upFrom-length a n)) ∙ ap f (upFrom-at a n i 0 h)
 
 -- a list read index by index
-pub mapped-upFrom-all : (f : ℕ → ℕ) (xs : List ℕ) (a : ℕ) → ((i : ℕ) → i < length xs → f (a + i) ≡ getD xs i 0) → map f (upFrom a (length xs)) ≡ xs
-mapped-upFrom-all f [] a h = refl
-mapped-upFrom-all f (x ∷ xs) a h =
-    ap₂ (λ (y : ℕ) (ys : List ℕ). y ∷ ys) (ap f (omega arith) ∙ h 0 (omega arith))
-    (mapped-upFrom-all f xs (suc a) (λ i l. ap f (omega arith) ∙ h (suc i) (omega arith)))
+pub mapped-upFrom-all : {B : Type 0} (f : ℕ → B) (xs : List B) (none : B) (a : ℕ) → ((i : ℕ) → i < length xs → f (a + i) ≡ getD xs i none)
+    → map f (upFrom a (length xs)) ≡ xs
+mapped-upFrom-all f [] none a h = refl
+mapped-upFrom-all {B = B} f (x ∷ xs) none a h =
+    ap₂ (λ (y : B) (ys : List B). y ∷ ys) (ap f (omega arith) ∙ h 0 (omega arith))
+    (mapped-upFrom-all f xs none (suc a) (λ i l. ap f (omega arith) ∙ h (suc i) (omega arith)))

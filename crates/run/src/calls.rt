@@ -1,6 +1,7 @@
 // Each call with a line of text: the call, what it was given and, after the colon, its reply: the refusal's number, 0 for none, then the
 // reply's numbers.
 ghost use mathlib.Core.Path.{_≡_};
+ghost use lib.IntN.{natAbs};
 ghost use Rattle.call_replies.specs.Replies.{batchedOf, steppedOf};
 ghost use Rattle.call_batch.specs.Batch.{batchReply, batchAfter};
 ghost use Rattle.call_step.specs.Steps.{stepReply, stepPlace};
@@ -39,6 +40,42 @@ fn tell(number: u64) {
     io::print_decimal(1, number);
 }
 
+// How far a signed number is from zero; of one below zero first how far it is from −1, since the least one has no opposite.
+fn magnitude(number: i64) -> u64
+    ensures { λ r. ⌜ r ≡ natAbs number ⌝ }
+{
+    if number < 0 {
+        return (-1 - number) as u64 + 1;
+    }
+    number as u64
+}
+
+// A signed number, with a minus where it is below zero.
+fn tell_signed(number: i64) {
+    if number < 0 {
+        io::write_all(1, b" -");
+    } else {
+        io::write_all(1, b" ");
+    }
+    io::print_decimal(1, magnitude(number));
+}
+
+fn tell_all(numbers: &[u64]) {
+    for i in 0..numbers.len() {
+        tell(numbers[i]);
+    }
+}
+
+fn tell_correction(correction: i32) {
+    tell_signed(correction as i64);
+}
+
+fn tell_corrections(corrections: &[i32]) {
+    for i in 0..corrections.len() {
+        tell_correction(corrections[i]);
+    }
+}
+
 fn refused(reason: Refusal) {
     tell(call_replies::number(reason));
 }
@@ -73,16 +110,17 @@ pub fn load(table: &mut [u64], order: u64, seed: u64, count: u16) {
     say(b"\n");
 }
 
-// A build from two numbers.
-pub fn build(table: &mut [u64], order: u64, first: u64, second: u64) {
-    let list = [first, second];
+pub fn build(table: &mut [u64], order: u64, list: &[u64], lengths: &[u64], corrections: &[i32]) {
     say(b"build of order");
     tell(order);
     say(b" from");
-    tell(first);
-    tell(second);
+    tell_all(list);
+    say(b" lengths");
+    tell_all(lengths);
+    say(b" corrections");
+    tell_corrections(corrections);
     say(b":");
-    let answer = index::build(table, order, &list);
+    let answer = index::build(table, order, list, lengths, corrections);
     match answer {
         Built::Done => tell(0),
         Built::Refused(reason) => refused(reason),
@@ -90,11 +128,14 @@ pub fn build(table: &mut [u64], order: u64, first: u64, second: u64) {
     say(b"\n");
 }
 
-pub fn insert(table: &mut [u64], key: u64) {
+pub fn insert(table: &mut [u64], key: u64, length: u64, correction: i32) {
     say(b"insert");
     tell(key);
+    say(b" measure");
+    tell(length);
+    tell_correction(correction);
     say(b":");
-    let answer = index::insert(table, key);
+    let answer = index::insert(table, key, length, correction);
     match answer {
         Inserted::Rank(rank) => {
             tell(0);
@@ -132,6 +173,9 @@ pub fn look_up(table: &[u64], key: u64) {
             tell(standing.count);
             tell(standing.leader);
             tell(blocks as u64);
+            say(b" measure");
+            tell(standing.length);
+            tell_signed(standing.correction);
         }
         LookedUp::Absent(blocks) => {
             say(b" 0 absent");

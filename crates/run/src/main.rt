@@ -1,22 +1,27 @@
-// Runs the calls: first on document 01's figures, then loads, then a session on three slots in which keys are looked up alone and together, a
-// range is read at once and key by key and an image is written, read and listed, and last over words that are no table and a table that is not
-// sound. Every refusal of every call is met.
+// Runs the calls: first on the figures of documents 01 and 02, then loads, then a session on three slots in which keys come with measures and
+// without, are looked up alone and together, a range is read at once and key by key and an image is written, read and listed, and last over
+// words that are no table and a table that is not sound. Every refusal of every call is met.
 use index::Place;
 
 mod calls;
 
 // The most words that a length is tried with.
-const MOST_WORDS: usize = 24585;
+const MOST_WORDS: usize = 32779;
 
 // The words of a table of three slots and of one slot, and so many words as no table has.
-const THREE_SLOTS: usize = 21;
+const THREE_SLOTS: usize = 27;
 
-const ONE_SLOT: usize = 9;
+const ONE_SLOT: usize = 11;
 
-const NO_TABLE: usize = 20;
+const NO_TABLE: usize = 26;
 
-// The bytes of the image of two keys in one block.
-const TWO_KEYS: usize = 89;
+// The bytes of the image of three keys in one block, two of them measured.
+const THREE_KEYS: usize = 131;
+
+// Where such an image has its number of keys, and the third byte of its first key's length.
+const KEYS_AT: usize = 3;
+
+const LENGTH_AT: usize = 61;
 
 // Room for the listing of such an image.
 const LISTING: usize = 200;
@@ -31,12 +36,12 @@ fn set_up_first(words: &mut [u64], n: usize) {
 
 // Lengths that are a table's and lengths that are none.
 fn lengths(words: &mut [u64]) {
-    set_up_first(words, 9);
-    set_up_first(words, 24579);
+    set_up_first(words, 11);
+    set_up_first(words, 32771);
     set_up_first(words, 3);
-    set_up_first(words, 8);
     set_up_first(words, 10);
-    set_up_first(words, 24585);
+    set_up_first(words, 12);
+    set_up_first(words, 32779);
 }
 
 fn try_lengths() {
@@ -64,21 +69,65 @@ fn loads(table: &mut [u64]) {
     calls::load(table, 256, 0, 3);
 }
 
+// A build from 5 and 9, neither measured.
+fn build_plain(table: &mut [u64], order: u64) {
+    calls::build(table, order, &[5, 9], &[0, 0], &[0, 0]);
+}
+
+// A build from 5 and 9 with a length that no last has.
+fn build_outside(table: &mut [u64]) {
+    calls::build(table, 3, &[5, 9], &[9999, 0], &[0, 0]);
+}
+
+// Builds from 5 and 9 that lack a length or a correction; and one whose keys do not rise either.
+fn build_short(table: &mut [u64]) {
+    calls::build(table, 3, &[9, 5], &[26500], &[-250, 0]);
+    calls::build(table, 3, &[5, 9], &[26500], &[-250, 0]);
+    calls::build(table, 3, &[5, 9], &[26500, 0], &[-250]);
+}
+
+// Builds from 5 and 9 with a length or a correction left over: beside no key, or beside a key that is not measured.
+fn build_long(table: &mut [u64]) {
+    calls::build(table, 3, &[5, 9], &[26500, 0, 0], &[-250, 0]);
+    calls::build(table, 3, &[5, 9], &[26500, 0], &[-250, 0, 0]);
+    calls::build(table, 3, &[5, 9], &[26500, 0], &[-250, 1]);
+}
+
+// Builds that are refused, and one that is not: 5 is measured, 9 is not.
+fn builds(table: &mut [u64]) {
+    build_plain(table, 2);
+    build_outside(table);
+    build_short(table);
+    build_long(table);
+    calls::build(table, 3, &[5, 9], &[26500, 0], &[-250, 0]);
+}
+
+// Keys that come with measures outside the rules: zero first, which has a refusal of its own, and a held key last.
+fn insert_outside(table: &mut [u64]) {
+    calls::insert(table, 0, 9999, 0);
+    calls::insert(table, 7, 9999, 0);
+    calls::insert(table, 7, 40001, 0);
+    calls::insert(table, 7, 26500, -5001);
+    calls::insert(table, 7, 26500, 5001);
+    calls::insert(table, 7, 0, 250);
+    calls::insert(table, 9, 9999, 0);
+}
+
 // Keys that come, into three slots.
 fn fill(table: &mut [u64]) {
-    calls::build(table, 2, 5, 9);
-    calls::build(table, 3, 9, 5);
-    calls::build(table, 3, 5, 9);
-    calls::insert(table, 0);
-    calls::insert(table, 9);
-    calls::insert(table, 7);
-    calls::insert(table, 8);
+    builds(table);
+    insert_outside(table);
+    calls::insert(table, 9, 0, 0);
+    calls::insert(table, 7, 40000, 5000);
+    calls::insert(table, 8, 0, 0);
 }
 
 // What is then held.
 fn ask(table: &[u64]) {
     calls::look_up(table, 0);
+    calls::look_up(table, 5);
     calls::look_up(table, 7);
+    calls::look_up(table, 9);
     calls::look_up(table, 8);
     calls::look_up_batch(table, 5, 6, 9);
     calls::look_up_batch(table, 5, 5, 9);
@@ -106,46 +155,74 @@ fn walks(table: &[u64]) {
     walk(table, Place::SPENT);
 }
 
-// Keys that go.
+// Keys that go; the measure of one that stays; and a key that comes again, with another measure.
 fn take(table: &mut [u64]) {
     calls::delete(table, 0);
     calls::delete(table, 8);
     calls::delete(table, 7);
+    calls::look_up(table, 5);
+    calls::insert(table, 7, 10000, -5000);
+    calls::look_up(table, 7);
 }
 
-// An image whose number of keys is changed.
-fn change(image: &mut [u8]) {
-    if 3 < image.len() {
-        image[3] = 9;
+// A byte of an image is changed.
+fn change(image: &mut [u8], at: usize, byte: u8) {
+    if at < image.len() {
+        image[at] = byte;
     }
 }
 
-// The image of a table of two keys: written, read and listed; more keys than a table of one slot takes; and bytes that are no image.
-fn images(table: &mut [u64], image: &mut [u8], text: &mut [u8]) {
-    let mut little = [0u64; ONE_SLOT];
-    let mut none = [0u8; 1];
-    calls::write(table, &mut none);
-    calls::write(table, image);
+// An image read into a table that was blank, and the measures that it brings.
+fn read_back(table: &mut [u64], image: &[u8]) {
+    calls::set_up(table, 3);
     calls::read(table, image);
+    calls::look_up(table, 5);
+    calls::look_up(table, 7);
+    calls::look_up(table, 9);
+}
+
+// More keys than a table of one slot takes, and measures outside the rules besides.
+fn overfill(image: &[u8]) {
+    let mut little = [0u64; ONE_SLOT];
     calls::read(&mut little, image);
-    calls::build(&mut little, 3, 5, 9);
-    calls::list(image, &mut none);
+    build_outside(&mut little);
+    build_plain(&mut little, 3);
+}
+
+// An image that is none: first with a length that no last has, then with another number of keys.
+fn no_image(table: &mut [u64], image: &mut [u8], text: &mut [u8]) {
+    change(image, LENGTH_AT, 1);
+    calls::read(table, image);
     calls::list(image, text);
-    change(image);
+    change(image, LENGTH_AT, 0);
+    change(image, KEYS_AT, 9);
     calls::read(table, image);
     calls::list(image, text);
 }
 
+// The image of a table of three keys: written, read and listed.
+fn images(table: &mut [u64], image: &mut [u8], text: &mut [u8]) {
+    let mut none = [0u8; 1];
+    calls::write(table, &mut none);
+    calls::write(table, image);
+    read_back(table, image);
+    overfill(image);
+    calls::list(image, &mut none);
+    calls::list(image, text);
+    no_image(table, image, text);
+}
+
 fn try_images(table: &mut [u64]) {
-    let mut image = [0u8; TWO_KEYS];
+    let mut image = [0u8; THREE_KEYS];
     let mut text = [0u8; LISTING];
     images(table, &mut image, &mut text);
 }
 
 // The calls that need a sound table, over these words.
 fn use_table(table: &mut [u64]) {
-    let mut image = [0u8; TWO_KEYS];
-    calls::insert(table, 7);
+    let mut image = [0u8; THREE_KEYS];
+    calls::insert(table, 7, 9999, 0);
+    calls::insert(table, 7, 0, 0);
     calls::delete(table, 5);
     calls::look_up(table, 5);
     calls::look_up_batch(table, 5, 6, 9);
@@ -156,10 +233,10 @@ fn use_table(table: &mut [u64]) {
 
 // The calls that make a table of any words, over these.
 fn make_table(table: &mut [u64]) {
-    let image = [0u8; TWO_KEYS];
+    let image = [0u8; THREE_KEYS];
     calls::set_up(table, 3);
     calls::load(table, 2, 0, 3);
-    calls::build(table, 3, 5, 9);
+    build_plain(table, 3);
     calls::read(table, &image);
 }
 
@@ -174,7 +251,7 @@ fn no_table() {
 // Somebody else changes the number of keys of a table.
 fn spoil(table: &mut [u64]) {
     if 1 < table.len() {
-        table[1] = 3;
+        table[1] = 2;
     }
 }
 

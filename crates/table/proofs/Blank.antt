@@ -19,9 +19,9 @@ empty-slots c (suc many) =
     ∙ replicate-append-replicate slotWords (slotWords * many) 0
     ∙ ap (λ (n : ℕ). replicate n 0) all
 
-pub blank-words : (many order : ℕ) → fresh many (record { order = order; keys = [] }) ≡ set (replicate (tableWords many) 0) 0 order
+pub blank-words : (many order : ℕ) → fresh many (record { order = order; entries = [] }) ≡ set (replicate (tableWords many) 0) 0 order
 unfolding fresh header top slotsOf flatMap
 blank-words many order =
     let parts : suc (suc (suc (slotWords * many))) ≡ tableWords many = omega arith in
-    ap (λ (xs : List ℕ). order ∷ 0 ∷ 0 ∷ xs) (empty-slots (record { order = order; keys = [] }) many)
+    ap (λ (xs : List ℕ). order ∷ 0 ∷ 0 ∷ xs) (empty-slots (record { order = order; entries = [] }) many)
     ∙ ap (λ (n : ℕ). set (replicate n 0) 0 order) parts

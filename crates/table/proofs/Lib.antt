@@ -1,4 +1,6 @@
 -- Laws of the table's words, one subject a file.
+pub mod Entries
+pub mod Tagged
 pub mod Words
 pub mod Held
 pub mod Reading

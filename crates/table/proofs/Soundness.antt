@@ -1,27 +1,29 @@
 -- What the words of any table show, and that `soundWith` decides soundness. Assumes a number of slots that a table may have, and
 -- words that are 64-bit numbers, where it says so.
 use mathlib.Core.Bool.{true, _&&_}
-use mathlib.Core.List.{List}
+use mathlib.Core.List.{List, [], _∷_, map}
 use mathlib.Core.Path.{_≡_, refl, sym, ap, _∙_, subst}
 use Prim.Native.Nat.{ℕ, _+_, _^_, _≤_, _<_}
 use native.Mathlib.Nat.{zero-add}
 use native.Mathlib.Omega.{arith}
-use lib.Dec.{ltb}
+use lib.Dec.{eqb, ltb}
 use lib.ListN.{length, getD, length-map}
 use lib.Seq.{take-length}
-use Rattle.lists.specs.Lists.{nonzero, keep, All, sortBy, same, upFrom, risesB, Rising}
+use Rattle.lists.specs.Lists.{nonzero, keep, every, All, sortBy, same, upFrom, risesB, Rising}
 use Rattle.lists.proofs.Copying.{kept}
-use Rattle.lists.proofs.Tests.{nonzero-says, and-left, and-right, and-both}
-use Rattle.lists.proofs.Keep.{all-map, all-both, all-always, all-mapped, all-keep, kept-pass, length-keep}
+use Rattle.lists.proofs.Tests.{by-test, nonzero-says, and-left, and-right, and-both}
+use Rattle.lists.proofs.Keep.{all-map, all-both, all-always, all-mapped, all-keep, kept-pass, length-keep, every-says, every-when}
 use Rattle.lists.proofs.Membership.{same-says, same-when}
 use Rattle.lists.proofs.Rising.{rises-says, rises-when}
 use Rattle.lists.proofs.Sorted.{sorted-all, sorted-length}
 use Rattle.lists.proofs.UpFrom.{upFrom-length, mapped-upFrom-at}
-use Rattle.table.specs.Layout.{mostSlots, keyField, tableWords, slotStart, keyIn, slotKeys}
-use Rattle.table.specs.Contents.{Contents, tableOrder, IsKey, Valid}
-use Rattle.table.specs.Table.{fresh, Sound, heldKeys, contentsOf}
+use Rattle.measure.specs.Measure.{isMeasure}
+use Rattle.table.specs.Layout.{mostSlots, keyField, tableWords, slotStart, keyIn}
+use Rattle.table.specs.Contents.{Contents, entryKeys, keysIn, tableOrder, IsKey, Valid}
+use Rattle.table.specs.Table.{fresh, Sound, entryIn, heldEntries, contentsOf}
 use Rattle.table.specs.Sound.{soundWith}
-use Rattle.table.proofs.Words.{fresh-length}
+use Rattle.table.proofs.Entries.{sorted-keys}
+use Rattle.table.proofs.Words.{slotKeys, heldKeys, fresh-length}
 use Rattle.table.proofs.Reading.{contents-of-fresh}
 
 -- Every word is a 64-bit number.
@@ -65,40 +67,63 @@ module _ (many : ℕ) (words : List ℕ) where
       let slots = slotKeys many words in
       ap (kept nonzero slots) (sym slotKeys-length) ∙ ap (keep nonzero) (take-length slots)
 
-  pub shown-held : contentsOf many words .keys ≡ sortBy ltb (heldKeys many words)
-  unfolding contentsOf
-  shown-held = refl
+  -- the entries held, and their keys
+  entries-keys : (slots : List ℕ) → entryKeys (keep (λ e. nonzero (e .key)) (map (entryIn words) slots)) ≡ keep nonzero (map (keyIn words) slots)
+  unfolding entryIn
+  entries-keys [] = refl
+  entries-keys (s ∷ slots) =
+      by-test (eqb (keyIn words s) 0)
+      (λ t. rw t (entries-keys slots))
+      (λ t. rw t (ap (λ (ks : List ℕ). keyIn words s ∷ ks) (entries-keys slots)))
 
-  pub shown-length : length (contentsOf many words .keys) ≡ length (heldKeys many words)
+  pub held-entry-keys : entryKeys (heldEntries many words) ≡ heldKeys many words
+  unfolding heldEntries heldKeys slotKeys
+  held-entry-keys = entries-keys (upFrom 0 many)
+
+  pub shown-held : keysIn (contentsOf many words) ≡ sortBy ltb (heldKeys many words)
+  unfolding contentsOf
+  shown-held = sorted-keys (heldEntries many words) ∙ ap (sortBy ltb) held-entry-keys
+
+  pub shown-length : length (keysIn (contentsOf many words)) ≡ length (heldKeys many words)
   shown-length = ap length shown-held ∙ sorted-length (heldKeys many words)
 
-  pub shown-fit : length (contentsOf many words .keys) ≤ many
+  pub shown-fit : length (keysIn (contentsOf many words)) ≤ many
   shown-fit = omega (arith, shown-length, held-fit)
 
-  shown-all : (P : ℕ → Type 0) → All P (heldKeys many words) → All P (contentsOf many words .keys)
+  shown-all : (P : ℕ → Type 0) → All P (heldKeys many words) → All P (keysIn (contentsOf many words))
   shown-all P h = subst (All P) (sym shown-held) (sorted-all P (heldKeys many words) h)
 
-  pub shown-nonzero : All (λ k. 1 ≤ k) (contentsOf many words .keys)
+  pub shown-nonzero : All (λ k. 1 ≤ k) (keysIn (contentsOf many words))
   shown-nonzero = shown-all (λ k. 1 ≤ k) held-nonzero
 
-  pub shown-keys : WordSized words → All IsKey (contentsOf many words .keys)
+  pub shown-keys : WordSized words → All IsKey (keysIn (contentsOf many words))
   shown-keys sized = shown-all IsKey (held-keys sized)
 
 -- ---- the test
 module _ (many : ℕ) (words : List ℕ) (passed : soundWith many words ≡ true) where
-  rest-passed : (risesB (contentsOf many words .keys) && same words (fresh many (contentsOf many words))) ≡ true
+  rest-passed : (risesB (keysIn (contentsOf many words))
+      && (every (λ e. isMeasure (e .measure)) (contentsOf many words .entries) && same words (fresh many (contentsOf many words)))) ≡ true
   unfolding soundWith
   rest-passed = and-right (tableOrder (contentsOf many words .order)) _ passed
 
+  last-passed : (every (λ e. isMeasure (e .measure)) (contentsOf many words .entries) && same words (fresh many (contentsOf many words))) ≡ true
+  last-passed = and-right (risesB (keysIn (contentsOf many words))) _ rest-passed
+
   pub sound-exactly : words ≡ fresh many (contentsOf many words)
-  sound-exactly = same-says words (fresh many (contentsOf many words)) (and-right (risesB (contentsOf many words .keys)) _ rest-passed)
+  sound-exactly =
+      same-says words (fresh many (contentsOf many words)) (and-right (every (λ e. isMeasure (e .measure)) (contentsOf many words .entries)) _ last-passed)
+
+  pub sound-measures : All (λ e. isMeasure (e .measure) ≡ true) (contentsOf many words .entries)
+  sound-measures =
+      every-says (λ e. isMeasure (e .measure)) (contentsOf many words .entries)
+      (and-left (every (λ e. isMeasure (e .measure)) (contentsOf many words .entries)) _ last-passed)
 
   pub sound-order : tableOrder (contentsOf many words .order) ≡ true
   unfolding soundWith
   sound-order = and-left (tableOrder (contentsOf many words .order)) _ passed
 
-  pub sound-rises : Rising (contentsOf many words .keys)
-  sound-rises = rises-says (contentsOf many words .keys) (and-left (risesB (contentsOf many words .keys)) _ rest-passed)
+  pub sound-rises : Rising (keysIn (contentsOf many words))
+  sound-rises = rises-says (keysIn (contentsOf many words)) (and-left (risesB (keysIn (contentsOf many words))) _ rest-passed)
 
   pub sound-valid : WordSized words → Valid many (contentsOf many words)
   sound-valid bounded =
@@ -107,6 +132,7 @@ module _ (many : ℕ) (words : List ℕ) (passed : soundWith many words ≡ true
         keys-right = shown-keys many words bounded;
         keys-rise = sound-rises;
         keys-fit = shown-fit many words;
+        measures-right = sound-measures;
       }
 
   pub sound-says : 1 ≤ many → many ≤ mostSlots → WordSized words → Sound words
@@ -125,7 +151,9 @@ unfolding soundWith
 fresh-passes many c some valid =
     rw (contents-of-fresh many c some valid)
     (and-both (tableOrder (c .order)) _ (valid .order-right)
-    (and-both (risesB (c .keys)) _ (rises-when (c .keys) (valid .keys-rise)) (same-when (fresh many c) (fresh many c) refl)))
+    (and-both (risesB (keysIn c)) _ (rises-when (keysIn c) (valid .keys-rise))
+    (and-both (every (λ e. isMeasure (e .measure)) (c .entries)) _ (every-when (λ e. isMeasure (e .measure)) (c .entries) (valid .measures-right))
+    (same-when (fresh many c) (fresh many c) refl))))
 
 pub sound-when : (many : ℕ) (words : List ℕ) → Sound words → length words ≡ tableWords many → soundWith many words ≡ true
 sound-when many words sound long =

@@ -1,22 +1,34 @@
 -- The words of a fresh table: how many, its header, and what stands in its slots. Assumes nothing.
 use mathlib.Core.List.{List, [], _∷_, _++_, map, flatMap}
-use mathlib.Core.Path.{_≡_, refl, sym, ap, _∙_}
+use mathlib.Core.Bool.{true}
+use mathlib.Core.Logic.{_≢_}
+use mathlib.Core.Path.{_≡_, refl, sym, ap, ap₂, _∙_}
 use Prim.Native.Nat.{ℕ, zero, suc, _+_, _*_, _<_}
 use native.Mathlib.Omega.{arith}
 use lib.Dec.{eqb}
 use lib.ListN.{length, getD, take, drop, replicate, length-append, length-replicate}
 use lib.Seq.{take-at, drop-append-add, getD-take, getD-drop}
-use borrow.Author.Tests.{eqb-true}
-use Rattle.lists.specs.Lists.{upFrom, sortBy}
+use borrow.Author.Tests.{eqb-true, ne-eqb}
+use Rattle.lists.specs.Lists.{nonzero, keep, upFrom, sortBy}
 use Rattle.lists.proofs.Tests.{by-test}
 use Rattle.lists.proofs.UpFrom.{mapped-upFrom-all}
+use Rattle.measure.specs.Measure.{isMeasure, storedCorrection, measureFrom}
+use Rattle.measure.proofs.Stored.{read-back}
 use Rattle.priority.specs.Priority.{priorityOf}
 use Rattle.treap.specs.Treap.{top, outranks}
 use Rattle.treap.specs.Slots.{slotsOf}
 use Rattle.table_slots.proofs.Placing.{placeAll-length}
-use Rattle.table.specs.Layout.{slotWords, orderWord, sizeWord, rootWord, keyField, tableWords, slotStart, keyIn, slotKeys}
-use Rattle.table.specs.Contents.{Contents}
-use Rattle.table.specs.Table.{homeIn, header, slotOf, fresh}
+use Rattle.table.specs.Layout.{slotWords, orderWord, sizeWord, rootWord, keyField, lengthField, correctionField, tableWords, slotStart, keyIn}
+use Rattle.table.specs.Contents.{Contents, keysIn, measureIn}
+use Rattle.table.specs.Table.{homeIn, header, slotOf, fresh, entryIn}
+
+-- ---- the keys in the slots
+-- In the order of slots, zero for an empty one; and those that are not empty.
+unfoldable pub slotKeys : ℕ → List ℕ → List ℕ
+slotKeys many words = map (keyIn words) (upFrom 0 many)
+
+unfoldable pub heldKeys : ℕ → List ℕ → List ℕ
+heldKeys many words = keep nonzero (slotKeys many words)
 
 -- ---- slot by slot
 slot-length : (c : Contents) (k : ℕ) → length (slotOf c k) ≡ slotWords
@@ -27,6 +39,12 @@ slot-length c k = by-test (eqb k 0) (λ e. rw e) (λ e. rw e)
 slot-key : (c : Contents) (k : ℕ) → getD (slotOf c k) keyField 0 ≡ k
 unfolding slotOf
 slot-key c k = by-test (eqb k 0) (λ e. rw e (sym (eqb-true k 0 e))) (λ e. rw e)
+
+-- the last two words of one that is not empty are the key's measure
+slot-measure : (c : Contents) (k : ℕ) → k ≢ 0
+    → (getD (slotOf c k) lengthField 0 ≡ measureIn (c .entries) k .length) × (getD (slotOf c k) correctionField 0 ≡ storedCorrection (measureIn (c .entries) k))
+unfolding slotOf
+slot-measure c k some = rw (ne-eqb k 0 some) (refl, refl)
 
 slots-length : (c : Contents) (ks : List ℕ) → length (flatMap (slotOf c) ks) ≡ slotWords * length ks
 unfolding flatMap
@@ -48,12 +66,12 @@ slot-in-slots c (k ∷ ks) (suc s) h =
 -- ---- the fresh table
 -- The keys in the slots of the fresh table, in the slots' order; zero for an empty slot.
 abbrev pub placedKeys : ℕ → Contents → List ℕ
-placedKeys many c = slotsOf priorityOf (homeIn many) many (c .keys)
+placedKeys many c = slotsOf priorityOf (homeIn many) many (keysIn c)
 
 pub placed-length : (many : ℕ) (c : Contents) → length (placedKeys many c) ≡ many
 unfolding slotsOf
 placed-length many c =
-    placeAll-length (homeIn many) (replicate many 0) (sortBy (outranks priorityOf) (c .keys)) ∙ length-replicate many 0
+    placeAll-length (homeIn many) (replicate many 0) (sortBy (outranks priorityOf) (keysIn c)) ∙ length-replicate many 0
 
 pub fresh-length : (many : ℕ) (c : Contents) → length (fresh many c) ≡ tableWords many
 unfolding fresh header
@@ -66,11 +84,11 @@ module _ (many : ℕ) (c : Contents) where
   unfolding fresh header
   fresh-order = refl
 
-  pub fresh-size : getD (fresh many c) sizeWord 0 ≡ length (c .keys)
+  pub fresh-size : getD (fresh many c) sizeWord 0 ≡ length (keysIn c)
   unfolding fresh header
   fresh-size = refl
 
-  pub fresh-root : getD (fresh many c) rootWord 0 ≡ top priorityOf (c .keys)
+  pub fresh-root : getD (fresh many c) rootWord 0 ≡ top priorityOf (keysIn c)
   unfolding fresh header
   fresh-root = refl
 
@@ -80,15 +98,33 @@ module _ (many : ℕ) (c : Contents) where
       ap (take slotWords) (drop-append-add (header c) (flatMap (slotOf c) (placedKeys many c)) (slotWords * s))
       ∙ slot-in-slots c (placedKeys many c) s (omega (arith, placed-length many c))
 
+  -- a word of a slot
+  pub fresh-word : (s field : ℕ) → s < many → field < slotWords
+      → getD (fresh many c) (slotStart s + field) 0 ≡ getD (slotOf c (getD (placedKeys many c) s 0)) field 0
+  fresh-word s field h l =
+      sym (getD-take slotWords (drop (slotStart s) (fresh many c)) field 0 l ∙ getD-drop (slotStart s) (fresh many c) field 0)
+      ∙ ap (λ (words : List ℕ). getD words field 0) (slot-in-fresh s h)
+
   pub fresh-key : (s : ℕ) → s < many → keyIn (fresh many c) s ≡ getD (placedKeys many c) s 0
-  fresh-key s h =
-      sym (getD-take slotWords (drop (slotStart s) (fresh many c)) keyField 0 (omega arith) ∙ getD-drop (slotStart s) (fresh many c) keyField 0)
-      ∙ ap (λ (words : List ℕ). getD words keyField 0) (slot-in-fresh s h)
-      ∙ slot-key c (getD (placedKeys many c) s 0)
+  fresh-key s h = fresh-word s keyField h (omega arith) ∙ slot-key c (getD (placedKeys many c) s 0)
+
+  -- the measure in a slot that is not empty
+  pub fresh-measure : (s : ℕ) → s < many → keyIn (fresh many c) s ≢ 0 → isMeasure (measureIn (c .entries) (keyIn (fresh many c) s)) ≡ true
+      → entryIn (fresh many c) s .measure ≡ measureIn (c .entries) (keyIn (fresh many c) s)
+  unfolding entryIn
+  fresh-measure s h some right =
+      let key = fresh-key s h in
+      let slot : slotOf c (getD (placedKeys many c) s 0) ≡ slotOf c (keyIn (fresh many c) s) = ap (slotOf c) (sym key) in
+      let read : (field : ℕ) → field < slotWords → getD (fresh many c) (slotStart s + field) 0 ≡ getD (slotOf c (keyIn (fresh many c) s)) field 0 =
+      λ field l. fresh-word s field h l ∙ ap (λ (words : List ℕ). getD words field 0) slot
+      in
+      ap₂ measureFrom (read lengthField (omega arith) ∙ slot-measure c (keyIn (fresh many c) s) some .0)
+      (read correctionField (omega arith) ∙ slot-measure c (keyIn (fresh many c) s) some .1)
+      ∙ read-back (measureIn (c .entries) (keyIn (fresh many c) s)) right
 
 pub fresh-keys : (many : ℕ) (c : Contents) → slotKeys many (fresh many c) ≡ placedKeys many c
 unfolding slotKeys
 fresh-keys many c =
     ap (λ (n : ℕ). map (keyIn (fresh many c)) (upFrom 0 n)) (sym (placed-length many c))
-    ∙ mapped-upFrom-all (keyIn (fresh many c)) (placedKeys many c) 0
+    ∙ mapped-upFrom-all (keyIn (fresh many c)) (placedKeys many c) 0 0
     (λ i h. ap (keyIn (fresh many c)) (omega arith) ∙ fresh-key many c i (omega (arith, placed-length many c)))

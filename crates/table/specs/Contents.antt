@@ -1,16 +1,46 @@
--- What a table holds, whatever its number of slots: document 01's "order and set". Assumes nothing.
-use mathlib.Core.Bool.{Bool, true, _&&_}
-use mathlib.Core.List.{List}
+-- What a table holds, whatever its number of slots: document 01's "order and set", the set being "one of keys with their measures" (02, N4).
+-- Assumes nothing.
+use mathlib.Core.Bool.{Bool, true, cond, _&&_}
+use mathlib.Core.List.{List, [], _∷_, map}
 use mathlib.Core.Path.{_≡_}
 use Prim.Native.Nat.{ℕ, _^_, _<_, _≤_}
+use lib.Dec.{eqb, ltb}
 use lib.ListN.{length}
 use Rattle.lists.specs.Lists.{lies, nonzero, risesB, every, All, Rising}
+use Rattle.measure.specs.Measure.{Measure, unmeasured, isMeasure}
 use Rattle.table.specs.Layout.{leastOrder, greatestOrder}
 
--- An order and a set of keys; the set is the list of its keys, rising.
+-- A key and its measure.
+pub record Entry : Type 0 where
+  pub key : ℕ
+  pub measure : Measure
+
+-- An order and a set of keys with their measures; the set is the list of its entries, by rising key.
 pub record Contents : Type 0 where
   pub order : ℕ
-  pub keys : List ℕ
+  pub entries : List Entry
+
+-- The keys of entries, and those of a set.
+abbrev pub entryKeys : List Entry → List ℕ
+entryKeys entries = map (λ e. e .key) entries
+
+abbrev pub keysIn : Contents → List ℕ
+keysIn c = entryKeys (c .entries)
+
+-- The measure of a key among entries; "not measured" where it is not among them.
+abbrev pub measureIn : List Entry → ℕ → Measure
+measureIn [] key = unmeasured
+measureIn (e ∷ entries) key = cond (eqb (e .key) key) (e .measure) (measureIn entries key)
+
+-- The key of one entry is below that of another.
+unfoldable pub keyBelow : Entry → Entry → Bool
+keyBelow e f = ltb (e .key) (f .key)
+
+-- Keys with the measures beside them, in their order; a key beside which there is none is not measured.
+abbrev pub entriesWith : List ℕ → List Measure → List Entry
+entriesWith [] measures = []
+entriesWith (key ∷ keys) [] = record { key = key; measure = unmeasured } ∷ entriesWith keys []
+entriesWith (key ∷ keys) (measure ∷ measures) = record { key = key; measure = measure } ∷ entriesWith keys measures
 
 -- "The order α is 3 to 255": the orders that a table may have.
 unfoldable pub tableOrder : ℕ → Bool
@@ -28,9 +58,10 @@ IsKey k = (1 ≤ k) × (k < 2 ^ 64)
 unfoldable pub risingKeys : List ℕ → Bool
 risingKeys list = risesB list && every nonzero list
 
--- An order that a table may have, and a set of at most so many keys.
+-- An order that a table may have, and a set of at most so many keys, their measures within the rules.
 pub record Valid (most : ℕ) (c : Contents) : Type 0 where
   pub order-right : tableOrder (c .order) ≡ true
-  pub keys-right : All IsKey (c .keys)
-  pub keys-rise : Rising (c .keys)
-  pub keys-fit : length (c .keys) ≤ most
+  pub keys-right : All IsKey (keysIn c)
+  pub keys-rise : Rising (keysIn c)
+  pub keys-fit : length (keysIn c) ≤ most
+  pub measures-right : All (λ e. isMeasure (e .measure) ≡ true) (c .entries)

@@ -1,8 +1,7 @@
 -- The numbers of the table's layout, each by its name, and the words of a slot. Assumes nothing.
-use mathlib.Core.List.{List, map}
+use mathlib.Core.List.{List}
 use Prim.Native.Nat.{ℕ, _+_, _*_}
 use lib.ListN.{getD}
-use Rattle.lists.specs.Lists.{upFrom}
 
 -- "A table has M slots, M from 1 to 4,096".
 abbrev pub mostSlots : ℕ
@@ -15,12 +14,13 @@ leastOrder = 3
 abbrev pub greatestOrder : ℕ
 greatestOrder = 255
 
--- "Words 0 to 2: α, n, root key. Then each slot: key, left, right, leader, rank, count."
+-- "Words 0 to 2: α, n, root key. Then each slot: key, left, right, leader, rank, count" (01); "slots gain these two words after count" (02,
+-- N4): the length and the stored correction.
 abbrev pub headerWords : ℕ
 headerWords = 3
 
 abbrev pub slotWords : ℕ
-slotWords = 6
+slotWords = 8
 
 abbrev pub orderWord : ℕ
 orderWord = 0
@@ -50,7 +50,13 @@ rankField = 4
 abbrev pub countField : ℕ
 countField = 5
 
--- "lives in lent 64-bit words, 3 + 6·M of them".
+abbrev pub lengthField : ℕ
+lengthField = 6
+
+abbrev pub correctionField : ℕ
+correctionField = 7
+
+-- "The table is 3 + 8·M words" (02, N4).
 abbrev pub tableWords : ℕ → ℕ
 tableWords many = headerWords + slotWords * many
 
@@ -61,7 +67,3 @@ slotStart slot = headerWords + slotWords * slot
 -- The key in a slot; zero when it is empty.
 abbrev pub keyIn : List ℕ → ℕ → ℕ
 keyIn words slot = getD words (slotStart slot + keyField) 0
-
--- The keys in the slots, in their order.
-unfoldable pub slotKeys : ℕ → List ℕ → List ℕ
-slotKeys many words = map (keyIn words) (upFrom 0 many)

@@ -4,7 +4,7 @@
 pub const HEADER_WORDS: usize = 3;
 
 // The words of a slot.
-pub const SLOT_WORDS: usize = 6;
+pub const SLOT_WORDS: usize = 8;
 
 // What each of a slot's words is, by its place among them.
 pub const KEY_FIELD: usize = 0;
@@ -18,6 +18,10 @@ pub const LEADER_FIELD: usize = 3;
 pub const RANK_FIELD: usize = 4;
 
 pub const COUNT_FIELD: usize = 5;
+
+pub const LENGTH_FIELD: usize = 6;
+
+pub const CORRECTION_FIELD: usize = 7;
 
 // Where the order, the number of keys and the root stand.
 pub const ORDER_WORD: usize = 0;

@@ -2,3 +2,5 @@
 mod Neighbours
 mod Gathered
 pub mod RisingKeys
+pub mod Collecting
+pub mod SortedTags

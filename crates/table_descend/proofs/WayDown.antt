@@ -28,7 +28,7 @@ use Rattle.treap_structure.proofs.Entrances.{ofLevel}
 use Rattle.treap_structure.proofs.MetBetween.{root-met}
 use Rattle.treap_structure.proofs.NewBlocks.{new-blocks-change}
 use Rattle.table.specs.Layout.{leastOrder, greatestOrder}
-use Rattle.table.specs.Contents.{Contents, tableOrder, IsKey, Valid}
+use Rattle.table.specs.Contents.{Contents, tableOrder, IsKey, Valid, keysIn}
 use Rattle.table_entries.specs.Steps.{nextKey}
 use Rattle.table_descend.specs.Lookup.{standingOf, earlier, newlyMet, lookedUpAfter}
 use Rattle.table_descend.specs.Entering.{firstBlock, otherThan, newBlock, lowAfter}
@@ -38,32 +38,32 @@ use Rattle.table_descend.proofs.Earlier.{none-earlier, last-earlier, me
 
 -- The subtree in which the search goes on from a key.
 abbrev pub rest : Contents → ℕ → Tree
-rest c at = subtree at (treap priorityOf (c .keys))
+rest c at = subtree at (treap priorityOf (keysIn c))
 
 -- None of the earlier lookups met a block.
 abbrev unmet : Contents → ℕ → ℕ → Block → Bool
-unmet c last before b = not (some (λ k. meets (c .order) priorityOf (c .keys) k b) (earlier last before))
+unmet c last before b = not (some (λ k. meets (c .order) priorityOf (keysIn c) k b) (earlier last before))
 
 -- Nor the block that holds a key.
 abbrev pub passes : Contents → ℕ → ℕ → ℕ → Bool
-passes c last before x = unmet c last before (blockOf (c .order) priorityOf (c .keys) x)
+passes c last before x = unmet c last before (blockOf (c .order) priorityOf (keysIn c) x)
 
 -- The blocks still to be counted, on from a key of this level.
 abbrev pub ahead : Contents → ℕ → ℕ → ℕ → List ℕ → ℕ
-ahead c last before level xs = changes (blockLevel (c .order) priorityOf (c .keys)) (passes c last before) level xs
+ahead c last before level xs = changes (blockLevel (c .order) priorityOf (keysIn c)) (passes c last before) level xs
 
 -- Before the key `at`, of a block of this level, is compared with the one sought, with so many blocks counted.
 pub record Searching (c : Contents) (key last before at level low met : ℕ) : Type 0 where
-  pub held-here : member at (c .keys) ≡ true
-  pub level-is : level ≡ blockLevel (c .order) priorityOf (c .keys) at
+  pub held-here : member at (keysIn c) ≡ true
+  pub level-is : level ≡ blockLevel (c .order) priorityOf (keysIn c) at
   -- the key is held when it is in what is left
-  pub held : member key (keys (rest c at)) ≡ member key (c .keys)
+  pub held : member key (keys (rest c at)) ≡ member key (keysIn c)
   -- the searches for lesser keys that come by `at` are those for keys above `low`
-  pub along : (q : ℕ) → 1 ≤ q → q ≤ pred key → member at (path q (treap priorityOf (c .keys))) ≡ ltb low q
+  pub along : (q : ℕ) → 1 ≤ q → q ≤ pred key → member at (path q (treap priorityOf (keysIn c))) ≡ ltb low q
   -- every block that is entered from here on and was not met before counts
   pub counted : met + ahead c last before level (path key (rest c at)) ≡ newlyMet c (earlier last before) key
   -- no more blocks than keys
-  pub few : met + size (rest c at) ≤ suc (length (c .keys))
+  pub few : met + size (rest c at) ≤ suc (length (keysIn c))
 
 module _ (many : ℕ) (c : Contents) (valid : Valid many c) where
   abbrev α : ℕ
@@ -73,10 +73,10 @@ module _ (many : ℕ) (c : Contents) (valid : Valid many c) where
   p = priorityOf
 
   abbrev ks : List ℕ
-  ks = c .keys
+  ks = keysIn c
 
   abbrev t : Tree
-  t = treap priorityOf (c .keys)
+  t = treap priorityOf (keysIn c)
 
   wide : 2 ≤ c .order
   unfolding tableOrder

@@ -7,27 +7,29 @@ use Rattle.lists.specs.Lists.{nonzero, keep, some, member}
 use Rattle.priority.specs.Priority.{priorityOf}
 use Rattle.treap.specs.Levels.{rank, count, leader}
 use Rattle.treap.specs.Blocks.{meets, blocksMet, blocks}
-use Rattle.table.specs.Contents.{Contents}
+use Rattle.table.specs.Contents.{Contents, keysIn, measureIn}
 use Rattle.table_descend.specs.declared.Standing.{Standing}
 use Rattle.table_descend.specs.declared.Looked.{Looked}
 use Rattle.table_descend.specs.declared.Looked.the-variants.{Held, Absent}
 
--- A key's "rank, count and leader".
+-- A key's "rank, count and leader" (01), and its measure, which "lookups carry" too (02, N4).
 unfoldable pub standingOf : Contents → ℕ → Standing
 standingOf c key =
     record {
-      rank = rank (c .order) priorityOf (c .keys) key;
-      count = count (c .order) priorityOf (c .keys) key;
-      leader = leader (c .order) priorityOf (c .keys) key;
+      rank = rank (c .order) priorityOf (keysIn c) key;
+      count = count (c .order) priorityOf (keysIn c) key;
+      leader = leader (c .order) priorityOf (keysIn c) key;
+      length = measureIn (c .entries) key .length;
+      correction = measureIn (c .entries) key .correction;
     }
 
 -- "Lookup gives held or absent, and rank, count and leader (zeros when absent). It also gives the number of different
 -- blocks that hold the keys it compares on its way down." An absent key has no standing here; the zeros are the reply's.
 unfoldable pub lookedUp : Contents → ℕ → Looked
 lookedUp c key =
-    cond (member key (c .keys))
-    (Held (standingOf c key) (blocksMet (c .order) priorityOf (c .keys) key))
-    (Absent (blocksMet (c .order) priorityOf (c .keys) key))
+    cond (member key (keysIn c))
+    (Held (standingOf c key) (blocksMet (c .order) priorityOf (keysIn c) key))
+    (Absent (blocksMet (c .order) priorityOf (keysIn c) key))
 
 -- ---- lookups one after the other, for rising keys
 -- The keys of the last lookup and of the one before it, where there are such: zero is no key.
@@ -38,12 +40,12 @@ earlier last before = keep nonzero (last ∷ before ∷ [])
 unfoldable pub newlyMet : Contents → List ℕ → ℕ → ℕ
 newlyMet c keys key =
     length
-    (keep (λ b. meets (c .order) priorityOf (c .keys) key b && not (some (λ k. meets (c .order) priorityOf (c .keys) k b) keys))
-    (blocks (c .order) priorityOf (c .keys)))
+    (keep (λ b. meets (c .order) priorityOf (keysIn c) key b && not (some (λ k. meets (c .order) priorityOf (keysIn c) k b) keys))
+    (blocks (c .order) priorityOf (keysIn c)))
 
 -- What a lookup finds after those of these keys, with the blocks that they did not meet.
 unfoldable pub lookedUpAfter : Contents → List ℕ → ℕ → Looked
 lookedUpAfter c keys key =
-    cond (member key (c .keys))
+    cond (member key (keysIn c))
     (Held (standingOf c key) (newlyMet c keys key))
     (Absent (newlyMet c keys key))

@@ -12,10 +12,13 @@ ghost use Rattle.table.specs.Sound.{soundWith};
 ghost use Rattle.table_descend.specs.Lookup.{standingOf, lookedUp, earlier, lookedUpAfter};
 ghost use Rattle.table_descend.specs.Entering.{firstBlock, otherThan, lowAfter, newBlock};
 ghost use Rattle.table_find.specs.Find.{OnlyAt};
+ghost use Rattle.table.specs.Contents.{keysIn};
 ghost use Rattle.table_entries.specs.Steps.{InSlot};
 use priority::CONSTANT_COUNT;
+use table::CORRECTION_FIELD;
 use table::COUNT_FIELD;
 use table::LEADER_FIELD;
+use table::LENGTH_FIELD;
 use table::RANK_FIELD;
 use table::ROOT_WORD;
 
@@ -24,6 +27,9 @@ pub struct Standing {
     pub rank: u64,
     pub count: u64,
     pub leader: u64,
+    // Zeros when the key is not measured.
+    pub length: u64,
+    pub correction: i64,
 }
 
 // What the way down from the root finds: the key, with its standing, or not; and how many blocks were met, of those that no earlier lookup met.
@@ -34,7 +40,7 @@ pub enum Looked {
 
 // The slot of a key that the way down reaches: its priority is worked out, and handed to the search. The constants of the priorities are lent.
 fn slot_reached(table: &[u64], many: usize, key: u64, constants: &[u64; CONSTANT_COUNT]) -> usize
-    requires { ⌜ (0 < many) × (many ≤ mostSlots) × (length (now table) ≡ tableWords many) × (soundWith many (now table) ≡ true) × (member key (contentsOf many (now table) .keys) ≡ true) × HoldsConstants (now constants) ⌝ }
+    requires { ⌜ (0 < many) × (many ≤ mostSlots) × (length (now table) ≡ tableWords many) × (soundWith many (now table) ≡ true) × (member key (keysIn (contentsOf many (now table))) ≡ true) × HoldsConstants (now constants) ⌝ }
     ensures { λ r. ⌜ OnlyAt many (now (table .entry)) key r ⌝ }
 {
     let priority = priority::priority_from(constants, key);
@@ -46,10 +52,14 @@ fn standing_of(table: &[u64], many: usize, slot: usize, key: u64) -> Standing
     requires { ⌜ InSlot many (now table) key slot ⌝ }
     ensures { λ r. ⌜ r ≡ standingOf (contentsOf many (now (table .entry))) key ⌝ }
 {
+    let length = table_entries::word_of(table, slot, LENGTH_FIELD);
+    let stored = table_entries::word_of(table, slot, CORRECTION_FIELD);
     Standing {
         rank: table_entries::word_of(table, slot, RANK_FIELD),
         count: table_entries::word_of(table, slot, COUNT_FIELD),
         leader: table_entries::word_of(table, slot, LEADER_FIELD),
+        length,
+        correction: measure::correction_from(length, stored),
     }
 }
 
@@ -97,8 +107,8 @@ fn is_new_block(
     below: u64,
     constants: &[u64; CONSTANT_COUNT],
 ) -> bool
-    requires { ⌜ (0 < many) × InSlot many (now table) at slot × (member at (contentsOf many (now table) .keys) ≡ true) × HoldsConstants (now constants) ⌝ }
-    requires { ⌜ ofLevel (contentsOf many (now table) .order) priorityOf (contentsOf many (now table) .keys) below next ≡ true ⌝ }
+    requires { ⌜ (0 < many) × InSlot many (now table) at slot × (member at (keysIn (contentsOf many (now table))) ≡ true) × HoldsConstants (now constants) ⌝ }
+    requires { ⌜ ofLevel (contentsOf many (now table) .order) priorityOf (keysIn (contentsOf many (now table))) below next ≡ true ⌝ }
     ensures { λ r. ⌜ r ≡ newBlock (contentsOf many (now (table .entry))) at low other level below ⌝ }
 {
     if below == level {

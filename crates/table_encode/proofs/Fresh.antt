@@ -1,5 +1,6 @@
--- The words from the columns of a rising list of keys are those of the fresh table. Assumes an order of at least 2, rising
--- keys, none of them zero, and columns by position as their definitions say.
+-- The words from the columns of a rising list of keys, and the tags beside them, are those of the fresh table. Assumes an order of at least
+-- 2, rising keys, none of them zero, and columns by position as their definitions say.
+use mathlib.Core.Bool.{true}
 use mathlib.Core.List.{List, [], _∷_, _++_, map, flatMap, map-map, Permᴰ·symm}
 use mathlib.Core.Logic.{_≢_}
 use mathlib.Core.Path.{_≡_, sym, ap, ap₂, _∙_, subst}
@@ -8,11 +9,14 @@ use native.Mathlib.Omega.{arith}
 use lib.ListN.{length, getD, take, replicate}
 use borrow.Author.Tests.{ne-eqb}
 use Rattle.lists.specs.Lists.{sortBy, All, Rising}
-use Rattle.lists.proofs.Keep.{all-map, all-replicate}
+use Rattle.lists.proofs.Keep.{all-map, all-at, all-replicate}
 use Rattle.lists.proofs.Membership.{all-member, all-of-members}
 use Rattle.lists.proofs.FlatMap.{flatMap-same, flatMap-mapped}
 use Rattle.lists.proofs.Sorting.{all-permuted, sortBy-permutes}
 use Rattle.lists.proofs.UpFrom.{upFrom-member, upFrom-rising, upFrom-within}
+use Rattle.measure.specs.Measure.{Measure, storedCorrection}
+use Rattle.measure.specs.Tag.{measureAt, isTag}
+use Rattle.measure.proofs.Tags.{length-at, stored-at}
 use Rattle.priority.specs.Priority.{priorityOf, homeOf}
 use Rattle.treap.specs.Treap.{top, outranks, leftLink, rightLink}
 use Rattle.treap.specs.Levels.{rank, count, leader}
@@ -22,8 +26,10 @@ use Rattle.table_slots.proofs.RelabelSlots.{renamed-slots}
 use Rattle.treap_columns.specs.Positions.{positions, weightAt}
 use Rattle.treap_columns.specs.Columns.{leftColumn, rightColumn, rankColumn, countColumn, leaderColumn}
 use Rattle.treap_columns.proofs.Filled.{column-at}
-use Rattle.table.specs.Contents.{Contents}
+use Rattle.table.specs.Contents.{Contents, measureIn}
+use Rattle.table.specs.Tags.{entriesTagged, tagged, Beside}
 use Rattle.table.specs.Table.{homeIn, header, slotOf, fresh}
+use Rattle.table.proofs.Tagged.{tagged-keys, found-tagged}
 use Rattle.table_encode.specs.Encode.{keyAt, Columns, slotAt, wordsOf}
 use Rattle.table_encode.proofs.Renaming.{maps-agree, key-at-zero, keys-of-positions, keys-rename, keys-apart, place-home, all-placed}
 
@@ -75,12 +81,22 @@ module _ (order : ℕ) (wide : 2 ≤ order) (keys : List ℕ) (rising : Rising k
     numbered g column e t i h =
         of-position (g priorityOf keys) (g q is) (over-keys (g priorityOf) (map (g q is) is) e) i h ∙ sym (column-at (g q is) n column t i h)
 
-    slot-right : (i : ℕ) → i ≤ n → slotOf (record { order = order; keys = keys }) (f i) ≡ slotAt keys c i
+    -- the measure of the key is that of the tag beside it
+    measured : (tags : List ℕ) (i : ℕ) → i < n → measureIn (entriesTagged keys tags) (f (suc i)) ≡ measureAt (getD tags i 0)
+    unfolding keyAt
+    measured tags i h =
+        let apart : suc i ≢ 0 = λ e. omega arith in
+        rw (ne-eqb (suc i) 0 apart) (found-tagged keys tags i rising h)
+
+    slot-right : (tags : List ℕ) → Beside keys tags → (i : ℕ) → i ≤ n → slotOf (tagged order keys tags) (f i) ≡ slotAt keys tags c i
     unfolding slotOf slotAt
-    slot-right zero h = rw (key-at-zero keys)
-    slot-right (suc i) h =
+    slot-right tags beside zero h = rw (key-at-zero keys)
+    slot-right tags beside (suc i) h =
         let apart = all-member (λ j. (j ≢ 0) × (f j ≢ 0)) is (suc i) (keys-apart keys some) (upFrom-member 1 n (suc i) (omega arith) (omega arith)) in
+        let tag = getD tags i 0 in
+        let tag-right : isTag tag ≡ true = all-at (λ t. isTag t ≡ true) tags i 0 (beside .right) (omega (arith, beside .as-many)) in
         rw (
+          tagged-keys keys tags,
           ne-eqb (f (suc i)) 0 (apart .1),
           ne-eqb (suc i) 0 (apart .0),
           linked leftLink (c .left) (renamed-left f priorityOf q is rename rise) (right .lefts) i h,
@@ -88,6 +104,8 @@ module _ (order : ℕ) (wide : 2 ≤ order) (keys : List ℕ) (rising : Rising k
           linked (leader order) (c .leader) (renamed-leader f priorityOf q is rename rise order wide) (right .leaders) i h,
           numbered (rank order) (c .rank) (renamed-ranks f priorityOf q is rename rise order wide) (right .ranks) i h,
           numbered (count order) (c .count) (renamed-counts f priorityOf q is rename rise order wide) (right .counts) i h,
+          ap (λ (m : Measure). m .length) (measured tags i h) ∙ length-at tag,
+          ap storedCorrection (measured tags i h) ∙ stored-at tag tag-right,
         )
 
     -- ---- the slots
@@ -106,17 +124,21 @@ module _ (order : ℕ) (wide : 2 ≤ order) (keys : List ℕ) (rising : Rising k
         (all-permuted (λ i. homeIn many (f i) ≡ homeOf (q i) many) (Permᴰ·symm (sortBy-permutes (outranks q) is))
         (all-of-members (λ i. homeIn many (f i) ≡ homeOf (q i) many) is (λ i m. ap (λ (z : ℕ). homeOf z many) (rename .keeps i m))))
 
-    pub words-are-fresh : (many : ℕ) → wordsOf order keys (top q is) c (slotsOf q (λ i. homeOf (q i) many) many is) ≡ fresh many (record { order = order; keys = keys })
+    pub words-are-fresh : (tags : List ℕ) → Beside keys tags → (many : ℕ)
+        → wordsOf order keys tags (top q is) c (slotsOf q (λ i. homeOf (q i) many) many is) ≡ fresh many (tagged order keys tags)
     unfolding wordsOf fresh header
-    words-are-fresh many =
-        let contents : Contents = record { order = order; keys = keys } in
+    words-are-fresh tags beside many =
+        let contents : Contents = tagged order keys tags in
         let placed = slotsOf q (λ i. homeOf (q i) many) many is in
         let slots-here : slotsOf priorityOf (homeIn many) many keys ≡ map f placed =
         ap (slotsOf priorityOf (homeIn many) many) (sym (keys-of-positions keys))
         ∙ renamed-slots f (homeIn many) (key-at-zero keys) priorityOf q is rename rise (keys-apart keys some) many ∙ ap (map f) (homes many)
         in
         let root-here : top priorityOf keys ≡ f (top q is) = ap (top priorityOf) (sym (keys-of-positions keys)) ∙ renamed-top f priorityOf q is rename rise in
-        sym (ap₂ (λ (z : ℕ) (xs : List ℕ). (order ∷ n ∷ z ∷ []) ++ xs) root-here
+        sym
+        (rw (tagged-keys keys tags)
+        (ap₂ (λ (z : ℕ) (xs : List ℕ). (order ∷ n ∷ z ∷ []) ++ xs) root-here
         (ap (flatMap (slotOf contents)) slots-here
         ∙ flatMap-mapped (slotOf contents) f placed
-        ∙ flatMap-same (λ i. slotOf contents (f i)) (slotAt keys c) placed (all-map (λ i. i ≤ n) (λ i. slotOf contents (f i) ≡ slotAt keys c i) (λ i h. slot-right i h) placed (slots-within many))))
+        ∙ flatMap-same (λ i. slotOf contents (f i)) (slotAt keys tags c) placed
+        (all-map (λ i. i ≤ n) (λ i. slotOf contents (f i) ≡ slotAt keys tags c i) (λ i h. slot-right tags beside i h) placed (slots-within many)))))

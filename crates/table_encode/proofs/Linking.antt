@@ -12,6 +12,7 @@ use Rattle.treap.specs.Levels.{leader}
 use Rattle.treap_columns.specs.Positions.{positions, weightAt}
 use Rattle.treap_columns.specs.Columns.{leftColumn, rightColumn, rankColumn, countColumn, leaderColumn}
 use Rattle.treap_columns.proofs.Filled.{column-at}
+use Rattle.table.specs.Tags.{tagged, Beside}
 use Rattle.table.specs.Table.{fresh}
 use Rattle.table_encode.specs.Encode.{Columns, Linked, wordsOf}
 use Rattle.table_encode.proofs.Fresh.{Right, slots-within, words-are-fresh}
@@ -65,6 +66,8 @@ module _ (order : ℕ) (wide : 2 ≤ order) (ks left right rank count lead slots
   pub slots-low : Rising ks → All (λ k. 1 ≤ k) ks → All (λ i. i ≤ length ks) slots
   slots-low rising some = subst (All (λ i. i ≤ length ks)) (sym (made .placed)) (slots-within order wide ks rising some columns right-columns (length slots))
 
-  pub prepared-words : Rising ks → All (λ k. 1 ≤ k) ks → wordsOf order ks root columns slots ≡ fresh (length slots) (record { order = order; keys = ks })
-  prepared-words rising some =
-      ap₂ (λ (r : ℕ) (s : List ℕ). wordsOf order ks r columns s) (made .root-is) (made .placed) ∙ words-are-fresh order wide ks rising some columns right-columns (length slots)
+  pub prepared-words : Rising ks → All (λ k. 1 ≤ k) ks → (tags : List ℕ) → Beside ks tags
+      → wordsOf order ks tags root columns slots ≡ fresh (length slots) (tagged order ks tags)
+  prepared-words rising some tags beside =
+      ap₂ (λ (r : ℕ) (s : List ℕ). wordsOf order ks tags r columns s) (made .root-is) (made .placed)
+      ∙ words-are-fresh order wide ks rising some columns right-columns tags beside (length slots)

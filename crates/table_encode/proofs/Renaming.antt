@@ -37,7 +37,7 @@ position-is n i m = all-member (λ x. (1 ≤ x) × (x < 1 + n)) (positions n) i 
 
 -- the keys are the keys of the positions
 pub keys-of-positions : (keys : List ℕ) → map (keyAt keys) (positions (length keys)) ≡ keys
-keys-of-positions keys = mapped-upFrom-all (keyAt keys) keys 1 (λ i h. ap (keyAt keys) (omega arith) ∙ key-at-suc keys i)
+keys-of-positions keys = mapped-upFrom-all (keyAt keys) keys 0 1 (λ i h. ap (keyAt keys) (omega arith) ∙ key-at-suc keys i)
 
 module _ (p : ℕ → ℕ) (keys : List ℕ) (rising : Rising keys) where
   pub keys-rename : Renames (keyAt keys) p (weightAt (map p keys)) (positions (length keys))

@@ -1,16 +1,17 @@
-// Writing the words of a table from the columns of its keys, and comparing a table with them.
+// Writing the words of a table from the columns of its keys and their tags, and comparing a table with them.
 ghost use mathlib.Core.Path.{_≡_};
-ghost use mathlib.Core.List.{_∷_, []};
 ghost use Prim.Native.Nat.{_+_, _≤_};
 ghost use lib.ListN.{length, take, drop};
 ghost use Rattle.lists.specs.Lists.{overwrite, same, All};
 ghost use Rattle.table.specs.Layout.{tableWords, slotWords};
 ghost use Rattle.table_encode.specs.Encode.{keyAt, slotAt, wordsIn, wordsOf, Linked};
+use table::CORRECTION_FIELD;
 use table::COUNT_FIELD;
 use table::HEADER_WORDS;
 use table::KEY_FIELD;
 use table::LEADER_FIELD;
 use table::LEFT_FIELD;
+use table::LENGTH_FIELD;
 use table::ORDER_WORD;
 use table::RANK_FIELD;
 use table::RIGHT_FIELD;
@@ -26,6 +27,8 @@ struct Slot {
     leader: u64,
     rank: u64,
     count: u64,
+    length: u64,
+    correction: u64,
 }
 
 // The key at a position; 0 at position 0. Internal to this library's crates.
@@ -42,6 +45,7 @@ pub fn key_at(keys: &[u64], position: usize) -> u64
 // The words of the slot that a position is in; zeros at position 0.
 fn slot_at(
     keys: &[u64],
+    tags: &[u64],
     left: &[u16],
     right: &[u16],
     leader: &[u16],
@@ -50,8 +54,8 @@ fn slot_at(
     position: usize,
 ) -> Slot
     requires { ⌜ Linked (now keys) (record { left = now left; right = now right; leader = now leader; rank = now rank; count = now count }) ⌝ }
-    requires { ⌜ position ≤ length (now keys) ⌝ }
-    ensures { λ r. ⌜ wordsIn r ≡ slotAt (now (keys .entry)) (record { left = now (left .entry); right = now (right .entry); leader = now (leader .entry); rank = now (rank .entry); count = now (count .entry) }) position ⌝ }
+    requires { ⌜ (position ≤ length (now keys)) × (length (now keys) ≤ length (now tags)) ⌝ }
+    ensures { λ r. ⌜ wordsIn r ≡ slotAt (now (keys .entry)) (now (tags .entry)) (record { left = now (left .entry); right = now (right .entry); leader = now (leader .entry); rank = now (rank .entry); count = now (count .entry) }) position ⌝ }
 {
     if position == 0 {
         return Slot {
@@ -61,12 +65,15 @@ fn slot_at(
             leader: 0,
             rank: 0,
             count: 0,
+            length: 0,
+            correction: 0,
         };
     }
     let i = position - 1;
     let l = key_at(keys, left[i] as usize);
     let r = key_at(keys, right[i] as usize);
     let d = key_at(keys, leader[i] as usize);
+    let tag = tags[i];
     Slot {
         key: keys[i],
         left: l,
@@ -74,6 +81,8 @@ fn slot_at(
         leader: d,
         rank: rank[i] as u64,
         count: count[i] as u64,
+        length: measure::length_in(tag),
+        correction: measure::stored_in(tag),
     }
 }
 
@@ -88,12 +97,15 @@ fn write_slot(table: &mut [u64], at: usize, slot: Slot)
     table[at + LEADER_FIELD] = slot.leader;
     table[at + RANK_FIELD] = slot.rank;
     table[at + COUNT_FIELD] = slot.count;
+    table[at + LENGTH_FIELD] = slot.length;
+    table[at + CORRECTION_FIELD] = slot.correction;
 }
 
 // Write the words of the table: the header, then each slot. Internal to this library's crates.
 pub fn emit(
     order: u64,
     keys: &[u64],
+    tags: &[u64],
     root: usize,
     left: &[u16],
     right: &[u16],
@@ -104,15 +116,24 @@ pub fn emit(
     table: &mut [u64],
 )
     requires { ⌜ Linked (now keys) (record { left = now left; right = now right; leader = now leader; rank = now rank; count = now count }) ⌝ }
-    requires { ⌜ (root ≤ length (now keys)) × All (λ i. i ≤ length (now keys)) (now slots) ⌝ }
+    requires { ⌜ (root ≤ length (now keys)) × All (λ i. i ≤ length (now keys)) (now slots) × (length (now keys) ≤ length (now tags)) ⌝ }
     requires { ⌜ length (now table) ≡ tableWords (length (now slots)) ⌝ }
-    ensures { λ _. ⌜ now (table .exit) ≡ wordsOf order (now (keys .entry)) root (record { left = now (left .entry); right = now (right .entry); leader = now (leader .entry); rank = now (rank .entry); count = now (count .entry) }) (now (slots .entry)) ⌝ }
+    ensures { λ _. ⌜ now (table .exit) ≡ wordsOf order (now (keys .entry)) (now (tags .entry)) root (record { left = now (left .entry); right = now (right .entry); leader = now (leader .entry); rank = now (rank .entry); count = now (count .entry) }) (now (slots .entry)) ⌝ }
 {
     table[ORDER_WORD] = order;
     table[SIZE_WORD] = keys.len() as u64;
     table[ROOT_WORD] = key_at(keys, root);
     for s in 0..slots.len() {
-        let slot = slot_at(keys, left, right, leader, rank, count, slots[s] as usize);
+        let slot = slot_at(
+            keys,
+            tags,
+            left,
+            right,
+            leader,
+            rank,
+            count,
+            slots[s] as usize,
+        );
         write_slot(table, HEADER_WORDS + SLOT_WORDS * s, slot);
     }
 }
@@ -137,13 +158,20 @@ fn slot_is(table: &[u64], at: usize, slot: Slot) -> bool
     if table[at + RANK_FIELD] != slot.rank {
         return false;
     }
-    table[at + COUNT_FIELD] == slot.count
+    if table[at + COUNT_FIELD] != slot.count {
+        return false;
+    }
+    if table[at + LENGTH_FIELD] != slot.length {
+        return false;
+    }
+    table[at + CORRECTION_FIELD] == slot.correction
 }
 
 // Whether the table has exactly the words that `emit` would write. Internal to this library's crates.
 pub fn matches(
     order: u64,
     keys: &[u64],
+    tags: &[u64],
     root: usize,
     left: &[u16],
     right: &[u16],
@@ -154,9 +182,9 @@ pub fn matches(
     table: &[u64],
 ) -> bool
     requires { ⌜ Linked (now keys) (record { left = now left; right = now right; leader = now leader; rank = now rank; count = now count }) ⌝ }
-    requires { ⌜ (root ≤ length (now keys)) × All (λ i. i ≤ length (now keys)) (now slots) ⌝ }
+    requires { ⌜ (root ≤ length (now keys)) × All (λ i. i ≤ length (now keys)) (now slots) × (length (now keys) ≤ length (now tags)) ⌝ }
     requires { ⌜ length (now table) ≡ tableWords (length (now slots)) ⌝ }
-    ensures { λ r. ⌜ r ≡ same (now (table .entry)) (wordsOf order (now (keys .entry)) root (record { left = now (left .entry); right = now (right .entry); leader = now (leader .entry); rank = now (rank .entry); count = now (count .entry) }) (now (slots .entry))) ⌝ }
+    ensures { λ r. ⌜ r ≡ same (now (table .entry)) (wordsOf order (now (keys .entry)) (now (tags .entry)) root (record { left = now (left .entry); right = now (right .entry); leader = now (leader .entry); rank = now (rank .entry); count = now (count .entry) }) (now (slots .entry))) ⌝ }
 {
     if table[ORDER_WORD] != order {
         return false;
@@ -168,7 +196,16 @@ pub fn matches(
         return false;
     }
     for s in 0..slots.len() {
-        let slot = slot_at(keys, left, right, leader, rank, count, slots[s] as usize);
+        let slot = slot_at(
+            keys,
+            tags,
+            left,
+            right,
+            leader,
+            rank,
+            count,
+            slots[s] as usize,
+        );
         if !slot_is(table, HEADER_WORDS + SLOT_WORDS * s, slot) {
             return false;
         }

@@ -13,7 +13,7 @@ use Rattle.lists.proofs.Tests.{by-test}
 use Rattle.lists.proofs.Membership.{all-member}
 use Rattle.priority.specs.Priority.{priorityOf}
 use Rattle.table.specs.Layout.{mostSlots, tableWords, keyIn}
-use Rattle.table.specs.Contents.{IsKey}
+use Rattle.table.specs.Contents.{IsKey, keysIn}
 use Rattle.table.specs.Table.{Sound, contentsOf}
 use Rattle.table.specs.Sound.{soundWith}
 use Rattle.table.proofs.Soundness.{WordSized, sound-exactly, sound-valid}
@@ -26,8 +26,8 @@ use Rattle.table_entries.specs.Steps.{InSlot}
 
 -- What an answer says of a key: held, its slot; absent, an empty slot or none.
 pub record Says (many : ℕ) (words : List ℕ) (k : ℕ) (answer : Found) : Type 0 where
-  when-held : member k (contentsOf many words .keys) ≡ true → TellsItsSlot many words k answer
-  when-absent : member k (contentsOf many words .keys) ≡ false → TellsNoKey many words answer
+  when-held : member k (keysIn (contentsOf many words)) ≡ true → TellsItsSlot many words k answer
+  when-absent : member k (keysIn (contentsOf many words)) ≡ false → TellsNoKey many words answer
 
 module _ (many : ℕ) (words : List ℕ) (some : 0 < many) (most : many ≤ mostSlots) (passed : soundWith many words ≡ true)
     (sized : WordSized words) where
@@ -51,41 +51,41 @@ module _ (many : ℕ) (words : List ℕ) (some : 0 < many) (most : many ≤ most
         when-absent = λ m. subst (TellsNoKey many words) (sym found) (search-tells .absent-key words sound k priority m);
       }
 
-  pub key-in-slot : length words ≡ tableWords many → (k slot : ℕ) → member k (contentsOf many words .keys) ≡ true
+  pub key-in-slot : length words ≡ tableWords many → (k slot : ℕ) → member k (keysIn (contentsOf many words)) ≡ true
       → OnlyAt many words k slot → InSlot many words k slot
   key-in-slot long k slot m only =
       record {
         few = most;
         long = long;
         sound = passed;
-        positive = all-member IsKey (contentsOf many words .keys) k (sound .valid .keys-right) m .0;
+        positive = all-member IsKey (keysIn (contentsOf many words)) k (sound .valid .keys-right) m .0;
         below = only .below;
         holds = only .holds;
       }
 
 module _ (many : ℕ) (words : List ℕ) (k : ℕ) (answer : Found) (says : Says many words k answer) where
-  pub held-somewhere : member k (contentsOf many words .keys) ≡ true → answer ≡ Nowhere → ⊥
+  pub held-somewhere : member k (keysIn (contentsOf many words)) ≡ true → answer ≡ Nowhere → ⊥
   unfolding TellsItsSlot
   held-somewhere m e = subst (TellsItsSlot many words k) e (says .when-held m)
 
-  pub nowhere-decides : answer ≡ Nowhere → false ≡ member k (contentsOf many words .keys)
-  nowhere-decides e = by-test (member k (contentsOf many words .keys)) (λ m. absurd (held-somewhere m e)) (λ m. sym m)
+  pub nowhere-decides : answer ≡ Nowhere → false ≡ member k (keysIn (contentsOf many words))
+  nowhere-decides e = by-test (member k (keysIn (contentsOf many words))) (λ m. absurd (held-somewhere m e)) (λ m. sym m)
 
   module _ (slot : ℕ) (e : answer ≡ At slot) where
-    pub held-slot : member k (contentsOf many words .keys) ≡ true → OnlyAt many words k slot
+    pub held-slot : member k (keysIn (contentsOf many words)) ≡ true → OnlyAt many words k slot
     unfolding TellsItsSlot
     held-slot m = subst (TellsItsSlot many words k) e (says .when-held m)
 
-    empty-slot : member k (contentsOf many words .keys) ≡ false → (slot < many) × (keyIn words slot ≡ 0)
+    empty-slot : member k (keysIn (contentsOf many words)) ≡ false → (slot < many) × (keyIn words slot ≡ 0)
     unfolding TellsNoKey
     empty-slot m = subst (TellsNoKey many words) e (says .when-absent m)
 
     pub slot-inside : slot < many
-    slot-inside = by-test (member k (contentsOf many words .keys)) (λ m. held-slot m .below) (λ m. empty-slot m .0)
+    slot-inside = by-test (member k (keysIn (contentsOf many words))) (λ m. held-slot m .below) (λ m. empty-slot m .0)
 
     -- a key is held where the slot holds it
-    pub slot-decides : 1 ≤ k → eqb (keyIn words slot) k ≡ member k (contentsOf many words .keys)
+    pub slot-decides : 1 ≤ k → eqb (keyIn words slot) k ≡ member k (keysIn (contentsOf many words))
     slot-decides positive =
-        by-test (member k (contentsOf many words .keys))
+        by-test (member k (keysIn (contentsOf many words)))
         (λ m. rw m (eq-eqb (keyIn words slot) k (held-slot m .holds)))
         (λ m. rw m (ne-eqb (keyIn words slot) k (λ q. omega (arith, empty-slot m .1))))

@@ -2,36 +2,36 @@
 use mathlib.Core.Bool.{true}
 use mathlib.Core.List.{List}
 use mathlib.Core.Logic.{_≢_}
-use mathlib.Core.Path.{_≡_, sym, ap, _∙_}
+use mathlib.Core.Path.{_≡_, sym, ap, ap₂, _∙_}
 use Prim.Native.Nat.{ℕ, _+_, _<_, _≤_}
 use native.Mathlib.Omega.{arith}
-use lib.ListN.{getD, drop}
-use lib.Seq.{getD-take, getD-drop}
+use lib.ListN.{getD}
 use borrow.Author.Tests.{eq-eqb, ne-eqb, lt-ltb, le-ltb}
+use Rattle.measure.specs.Measure.{isMeasure, storedCorrection, measureFrom}
+use Rattle.measure.proofs.Stored.{read-back, measure-stored, stored-bounds}
 use Rattle.priority.specs.Priority.{priorityOf}
 use Rattle.treap.specs.Treap.{top, leftLink, rightLink}
 use Rattle.treap.specs.Levels.{rank, count, leader}
 use Rattle.treap.specs.Blocks.{rootRank}
 use Rattle.treap_structure.proofs.Blocks.{blockLevel}
 use Rattle.treap_structure.proofs.Bounds.{rank-at-most}
-use Rattle.table.specs.Layout.{mostSlots, slotWords, rootWord, leftField, rightField, leaderField, rankField, countField, slotStart, keyIn}
-use Rattle.table.specs.Contents.{Contents}
+use Rattle.table.specs.Layout.{mostSlots, slotWords, rootWord, leftField, rightField, leaderField, rankField, countField, lengthField, correctionField, slotStart, keyIn}
+use Rattle.table.specs.Contents.{Contents, keysIn, measureIn}
 use Rattle.table.specs.Table.{slotOf, fresh, contentsOf}
 use Rattle.table.specs.Sound.{soundWith}
-use Rattle.table.proofs.Words.{fresh-root, slot-in-fresh, fresh-key}
-use Rattle.table.proofs.Soundness.{sound-exactly, shown-fit}
+use Rattle.table.proofs.Entries.{found-right}
+use Rattle.table.proofs.Words.{fresh-root, fresh-word, fresh-key}
+use Rattle.table.proofs.Soundness.{sound-exactly, sound-measures, shown-fit}
 use Rattle.table_entries.specs.Steps.{nextKey, InSlot}
 
 -- any word of a slot that holds a key, in a fresh table
 field-in-fresh : (many : ℕ) (c : Contents) (k slot field : ℕ) → slot < many → keyIn (fresh many c) slot ≡ k → field < slotWords
     → getD (fresh many c) (slotStart slot + field) 0 ≡ getD (slotOf c k) field 0
 field-in-fresh many c k slot field inside holds within =
-    sym (getD-take slotWords (drop (slotStart slot) (fresh many c)) field 0 within ∙ getD-drop (slotStart slot) (fresh many c) field 0)
-    ∙ ap (λ (words : List ℕ). getD words field 0) (slot-in-fresh many c slot inside)
-    ∙ ap (λ (key : ℕ). getD (slotOf c key) field 0) (sym (fresh-key many c slot inside) ∙ holds)
+    fresh-word many c slot field inside within ∙ ap (λ (key : ℕ). getD (slotOf c key) field 0) (sym (fresh-key many c slot inside) ∙ holds)
 
 -- the root's word
-pub root-is : (many : ℕ) (words : List ℕ) → soundWith many words ≡ true → getD words rootWord 0 ≡ top priorityOf (contentsOf many words .keys)
+pub root-is : (many : ℕ) (words : List ℕ) → soundWith many words ≡ true → getD words rootWord 0 ≡ top priorityOf (keysIn (contentsOf many words))
 root-is many words passed =
     ap (λ (ws : List ℕ). getD ws rootWord 0) (sound-exactly many words passed) ∙ fresh-root many (contentsOf many words)
 
@@ -49,45 +49,65 @@ module _ (many : ℕ) (words : List ℕ) (k slot : ℕ) (at : InSlot many words 
   key-some : k ≢ 0
   key-some e = omega (arith, at .positive)
 
-  left-is : getD words (slotStart slot + leftField) 0 ≡ leftLink priorityOf (c .keys) k
+  left-is : getD words (slotStart slot + leftField) 0 ≡ leftLink priorityOf (keysIn c) k
   unfolding slotOf
   left-is = field-is leftField (omega arith) ∙ rw (ne-eqb k 0 key-some)
 
-  right-is : getD words (slotStart slot + rightField) 0 ≡ rightLink priorityOf (c .keys) k
+  right-is : getD words (slotStart slot + rightField) 0 ≡ rightLink priorityOf (keysIn c) k
   unfolding slotOf
   right-is = field-is rightField (omega arith) ∙ rw (ne-eqb k 0 key-some)
 
-  pub leader-is : getD words (slotStart slot + leaderField) 0 ≡ leader (c .order) priorityOf (c .keys) k
+  pub leader-is : getD words (slotStart slot + leaderField) 0 ≡ leader (c .order) priorityOf (keysIn c) k
   unfolding slotOf
   leader-is = field-is leaderField (omega arith) ∙ rw (ne-eqb k 0 key-some)
 
-  pub rank-is : getD words (slotStart slot + rankField) 0 ≡ rank (c .order) priorityOf (c .keys) k
+  pub rank-is : getD words (slotStart slot + rankField) 0 ≡ rank (c .order) priorityOf (keysIn c) k
   unfolding slotOf
   rank-is = field-is rankField (omega arith) ∙ rw (ne-eqb k 0 key-some)
 
-  pub count-is : getD words (slotStart slot + countField) 0 ≡ count (c .order) priorityOf (c .keys) k
+  pub count-is : getD words (slotStart slot + countField) 0 ≡ count (c .order) priorityOf (keysIn c) k
   unfolding slotOf
   count-is = field-is countField (omega arith) ∙ rw (ne-eqb k 0 key-some)
 
+  -- the last two words, and the measure that they show
+  pub length-is : getD words (slotStart slot + lengthField) 0 ≡ measureIn (c .entries) k .length
+  unfolding slotOf
+  length-is = field-is lengthField (omega arith) ∙ rw (ne-eqb k 0 key-some)
+
+  stored-is : getD words (slotStart slot + correctionField) 0 ≡ storedCorrection (measureIn (c .entries) k)
+  unfolding slotOf
+  stored-is = field-is correctionField (omega arith) ∙ rw (ne-eqb k 0 key-some)
+
+  measure-right : isMeasure (measureIn (c .entries) k) ≡ true
+  measure-right = found-right (c .entries) k (sound-measures many words (at .sound))
+
+  pub stored-small : getD words (slotStart slot + correctionField) 0 ≤ 10000
+  stored-small =
+      let m = measureIn (c .entries) k in
+      omega (arith, stored-is, stored-bounds (m .length) (storedCorrection m) (measure-stored m measure-right) .1)
+
+  pub measure-is : measureFrom (getD words (slotStart slot + lengthField) 0) (getD words (slotStart slot + correctionField) 0) ≡ measureIn (c .entries) k
+  measure-is = ap₂ measureFrom length-is stored-is ∙ read-back (measureIn (c .entries) k) measure-right
+
   pub rank-word-small : getD words (slotStart slot + rankField) 0 ≤ mostSlots
-  rank-word-small = omega (arith, rank-is, rank-at-most (c .order) priorityOf (c .keys) k, shown-fit many words, at .few)
+  rank-word-small = omega (arith, rank-is, rank-at-most (c .order) priorityOf (keysIn c) k, shown-fit many words, at .few)
 
   -- what the words amount to
-  pub root-level-is : (word : ℕ) → word ≡ getD words (slotStart slot + rankField) 0 → k ≡ getD words rootWord 0 → word ≡ blockLevel (c .order) priorityOf (c .keys) k
+  pub root-level-is : (word : ℕ) → word ≡ getD words (slotStart slot + rankField) 0 → k ≡ getD words rootWord 0 → word ≡ blockLevel (c .order) priorityOf (keysIn c) k
   unfolding blockLevel rootRank
   root-level-is word e r =
-      let root : k ≡ top priorityOf (c .keys) = r ∙ root-is many words (at .sound) in
-      rw (eq-eqb k (top priorityOf (c .keys)) root) (e ∙ rank-is ∙ ap (rank (c .order) priorityOf (c .keys)) root)
+      let root : k ≡ top priorityOf (keysIn c) = r ∙ root-is many words (at .sound) in
+      rw (eq-eqb k (top priorityOf (keysIn c)) root) (e ∙ rank-is ∙ ap (rank (c .order) priorityOf (keysIn c)) root)
 
-  pub other-level-is : (word : ℕ) → word ≡ getD words (slotStart slot + rankField) 0 → k ≢ getD words rootWord 0 → word + 1 ≡ blockLevel (c .order) priorityOf (c .keys) k
+  pub other-level-is : (word : ℕ) → word ≡ getD words (slotStart slot + rankField) 0 → k ≢ getD words rootWord 0 → word + 1 ≡ blockLevel (c .order) priorityOf (keysIn c) k
   unfolding blockLevel
   other-level-is word e d =
-      rw (ne-eqb k (top priorityOf (c .keys)) (λ r. d (r ∙ sym (root-is many words (at .sound))))) (omega (arith, e ∙ rank-is))
+      rw (ne-eqb k (top priorityOf (keysIn c)) (λ r. d (r ∙ sym (root-is many words (at .sound))))) (omega (arith, e ∙ rank-is))
 
-  pub next-is-left : (word key : ℕ) → word ≡ getD words (slotStart slot + leftField) 0 → key < k → word ≡ nextKey (c .keys) k key
+  pub next-is-left : (word key : ℕ) → word ≡ getD words (slotStart slot + leftField) 0 → key < k → word ≡ nextKey (keysIn c) k key
   unfolding nextKey
   next-is-left word key e h = rw (lt-ltb key k h) (e ∙ left-is)
 
-  pub next-is-right : (word key : ℕ) → word ≡ getD words (slotStart slot + rightField) 0 → k ≤ key → word ≡ nextKey (c .keys) k key
+  pub next-is-right : (word key : ℕ) → word ≡ getD words (slotStart slot + rightField) 0 → k ≤ key → word ≡ nextKey (keysIn c) k key
   unfolding nextKey
   next-is-right word key e h = rw (le-ltb key k h) (e ∙ right-is)

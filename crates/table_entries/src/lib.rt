@@ -11,6 +11,7 @@ ghost use Rattle.table.specs.Layout.{mostSlots, tableWords, slotStart};
 ghost use Rattle.table.specs.Table.{contentsOf};
 ghost use Rattle.table.specs.Sound.{soundWith};
 ghost use Rattle.table_find.specs.Find.{OnlyAt};
+ghost use Rattle.table.specs.Contents.{keysIn};
 ghost use Rattle.table_entries.specs.Steps.{nextKey, InSlot};
 use table::HEADER_WORDS;
 use table::KEY_FIELD;
@@ -33,7 +34,7 @@ pub fn word_of(table: &[u64], slot: usize, field: usize) -> u64
 // Internal to this library's crates: their tables are judged before, and their keys are not zero.
 pub fn holds(table: &[u64], many: usize, key: u64, priority: u64) -> bool
     requires { ⌜ (0 < many) × (many ≤ mostSlots) × (length (now table) ≡ tableWords many) × (soundWith many (now table) ≡ true) × (1 ≤ key) × (priority ≡ priorityOf key) ⌝ }
-    ensures { λ r. ⌜ r ≡ member key (contentsOf many (now (table .entry)) .keys) ⌝ }
+    ensures { λ r. ⌜ r ≡ member key (keysIn (contentsOf many (now (table .entry)))) ⌝ }
 {
     let found = table_find::find(table, many, key, priority);
     let Found::At(slot) = found else {
@@ -45,7 +46,7 @@ pub fn holds(table: &[u64], many: usize, key: u64, priority: u64) -> bool
 // The slot of a key that the table holds. Handed the key's own priority.
 // Internal to this library's crates: their tables are judged before.
 pub fn slot_of(table: &[u64], many: usize, key: u64, priority: u64) -> usize
-    requires { ⌜ (0 < many) × (many ≤ mostSlots) × (length (now table) ≡ tableWords many) × (soundWith many (now table) ≡ true) × (member key (contentsOf many (now table) .keys) ≡ true) × (priority ≡ priorityOf key) ⌝ }
+    requires { ⌜ (0 < many) × (many ≤ mostSlots) × (length (now table) ≡ tableWords many) × (soundWith many (now table) ≡ true) × (member key (keysIn (contentsOf many (now table))) ≡ true) × (priority ≡ priorityOf key) ⌝ }
     ensures { λ r. ⌜ OnlyAt many (now (table .entry)) key r ⌝ }
 {
     let found = table_find::find(table, many, key, priority);
@@ -58,8 +59,8 @@ pub fn slot_of(table: &[u64], many: usize, key: u64, priority: u64) -> usize
 // The rank of a key that the table holds. Handed the key's own priority.
 // Internal to this library's crates: their tables are judged before.
 pub fn rank_of(table: &[u64], many: usize, key: u64, priority: u64) -> u64
-    requires { ⌜ (0 < many) × (many ≤ mostSlots) × (length (now table) ≡ tableWords many) × (soundWith many (now table) ≡ true) × (member key (contentsOf many (now table) .keys) ≡ true) × (priority ≡ priorityOf key) ⌝ }
-    ensures { λ r. ⌜ r ≡ rank (contentsOf many (now (table .entry)) .order) priorityOf (contentsOf many (now (table .entry)) .keys) key ⌝ }
+    requires { ⌜ (0 < many) × (many ≤ mostSlots) × (length (now table) ≡ tableWords many) × (soundWith many (now table) ≡ true) × (member key (keysIn (contentsOf many (now table))) ≡ true) × (priority ≡ priorityOf key) ⌝ }
+    ensures { λ r. ⌜ r ≡ rank (contentsOf many (now (table .entry)) .order) priorityOf (keysIn (contentsOf many (now (table .entry)))) key ⌝ }
 {
     let slot = slot_of(table, many, key, priority);
     word_of(table, slot, RANK_FIELD)
@@ -68,7 +69,7 @@ pub fn rank_of(table: &[u64], many: usize, key: u64, priority: u64) -> u64
 // The level of the block that holds the key in a slot: its rank for the root, one more for any other key. Internal to this library's crates.
 pub fn level_of(table: &[u64], many: usize, slot: usize, key: u64) -> u64
     requires { ⌜ InSlot many (now table) key slot ⌝ }
-    ensures { λ r. ⌜ r ≡ blockLevel (contentsOf many (now (table .entry)) .order) priorityOf (contentsOf many (now (table .entry)) .keys) key ⌝ }
+    ensures { λ r. ⌜ r ≡ blockLevel (contentsOf many (now (table .entry)) .order) priorityOf (keysIn (contentsOf many (now (table .entry)))) key ⌝ }
 {
     let rank = word_of(table, slot, RANK_FIELD);
     if key == table[ROOT_WORD] {
@@ -80,7 +81,7 @@ pub fn level_of(table: &[u64], many: usize, slot: usize, key: u64) -> u64
 // Where the search for `key` goes on from the key `at` in a slot; zero where it ends. Internal to this library's crates.
 pub fn next_of(table: &[u64], many: usize, slot: usize, at: u64, key: u64) -> u64
     requires { ⌜ InSlot many (now table) at slot ⌝ }
-    ensures { λ r. ⌜ r ≡ nextKey (contentsOf many (now (table .entry)) .keys) at key ⌝ }
+    ensures { λ r. ⌜ r ≡ nextKey (keysIn (contentsOf many (now (table .entry)))) at key ⌝ }
 {
     if key < at {
         return word_of(table, slot, LEFT_FIELD);

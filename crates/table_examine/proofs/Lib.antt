@@ -1,3 +1,5 @@
 -- Laws of examining.
 pub mod Verdicts
 pub mod Examined
+mod Measured
+mod KeysRead

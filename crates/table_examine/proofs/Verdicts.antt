@@ -1,18 +1,22 @@
 -- What the tests of examining say of the verdict. Assumes nothing.
 use mathlib.Core.Bool.{Bool, true, false, cond}
 use mathlib.Core.List.{List}
-use mathlib.Core.Path.{_≡_, refl, sym, ap, _∙_}
+use mathlib.Core.Path.{_≡_, refl, sym, ap, ap₂, _∙_}
 use Prim.Native.Nat.{ℕ, _≤_}
 use native.Mathlib.Omega.{arith}
 use lib.ListN.{length, getD, take}
-use Rattle.lists.specs.Lists.{lies, risesB, same, overwrite}
+use Rattle.lists.specs.Lists.{All, lies, risesB, same, overwrite}
+use Rattle.lists.proofs.Keep.{every-when}
 use Rattle.lists.proofs.Rising.{rises-says}
 use Rattle.lists.proofs.Start.{starts-with}
+use Rattle.measure.specs.Measure.{isMeasure}
 use Rattle.table.specs.Layout.{mostSlots, leastOrder, greatestOrder, orderWord}
-use Rattle.table.specs.Contents.{tableOrder}
+use Rattle.table.specs.Contents.{Entry, keysIn, tableOrder}
+use Rattle.table.specs.Tags.{tagsIn, entriesTagged, tagged}
 use Rattle.table.specs.Table.{fresh, contentsOf}
 use Rattle.table.specs.Sound.{soundWith}
 use Rattle.table.proofs.Soundness.{shown-fit, shown-nonzero}
+use Rattle.table.proofs.Tagged.{tagged-back}
 use Rattle.table_prepare.specs.Prepared.{Keys}
 use Rattle.table_prepare.proofs.Writable.{writable}
 use Rattle.table_examine.specs.declared.Verdict.{Verdict}
@@ -38,32 +42,32 @@ module _ (many : ℕ) (words : List ℕ) where
   order-wrong e = rw e
 
   -- the other tests, once the order is one
-  pub keys-do-not-rise : lies leastOrder greatestOrder (getD words orderWord 0) ≡ true → risesB (contentsOf many words .keys) ≡ false
+  pub keys-do-not-rise : lies leastOrder greatestOrder (getD words orderWord 0) ≡ true → risesB (keysIn (contentsOf many words)) ≡ false
       → soundWith many words ≡ false
   unfolding soundWith contentsOf tableOrder
   keys-do-not-rise right e = rw (right, e)
 
-  pub decided : lies leastOrder greatestOrder (getD words orderWord 0) ≡ true → risesB (contentsOf many words .keys) ≡ true
-      → soundWith many words ≡ same words (fresh many (contentsOf many words))
+  pub decided : lies leastOrder greatestOrder (getD words orderWord 0) ≡ true → risesB (keysIn (contentsOf many words)) ≡ true
+      → All (λ e. isMeasure (e .measure) ≡ true) (contentsOf many words .entries) → soundWith many words ≡ same words (fresh many (contentsOf many words))
   unfolding soundWith contentsOf tableOrder
-  decided right e = rw (right, e)
+  decided right e measures = rw (right, e, every-when (λ f. isMeasure (f .measure)) (contentsOf many words .entries) measures)
 
   pub unsound : soundWith many words ≡ false → Unsound ≡ verdictOf many words
   unfolding verdictOf
   unsound e = rw e
 
-  pub sound : (n : ℕ) → soundWith many words ≡ true → n ≡ length (contentsOf many words .keys) → Sound n ≡ verdictOf many words
+  pub sound : (n : ℕ) → soundWith many words ≡ true → n ≡ length (keysIn (contentsOf many words)) → Sound n ≡ verdictOf many words
   unfolding verdictOf
   sound n e h = rw (e, h)
 
   -- the verdict, from what comparing the words tells
-  pub verdict-is : (b : Bool) (n : ℕ) → soundWith many words ≡ b → n ≡ length (contentsOf many words .keys) → cond b (Sound n) Unsound ≡ verdictOf many words
+  pub verdict-is : (b : Bool) (n : ℕ) → soundWith many words ≡ b → n ≡ length (keysIn (contentsOf many words)) → cond b (Sound n) Unsound ≡ verdictOf many words
   unfolding verdictOf
   verdict-is b n e h = rw (e, h)
 
   verdict-says : soundWith many words ≡ says (verdictOf many words)
   unfolding verdictOf
-  verdict-says = sym (says-cond (soundWith many words) (length (contentsOf many words .keys)))
+  verdict-says = sym (says-cond (soundWith many words) (length (keysIn (contentsOf many words))))
 
   -- what a verdict says
   pub told-true : (n : ℕ) → verdictOf many words ≡ Sound n → soundWith many words ≡ true
@@ -72,20 +76,23 @@ module _ (many : ℕ) (words : List ℕ) where
   pub told-false : verdictOf many words ≡ Unsound → soundWith many words ≡ false
   told-false v = verdict-says ∙ ap says v
 
-  pub told-size : (n : ℕ) → verdictOf many words ≡ Sound n → n ≡ length (contentsOf many words .keys)
-  told-size n v = sym (ap sizeIn (sound (length (contentsOf many words .keys)) (told-true n v) refl ∙ v))
+  pub told-size : (n : ℕ) → verdictOf many words ≡ Sound n → n ≡ length (keysIn (contentsOf many words))
+  told-size n v = sym (ap sizeIn (sound (length (keysIn (contentsOf many words))) (told-true n v) refl ∙ v))
 
   -- ---- the keys that are read, as the comparison takes them
-  pub keys-read : (lent keys : List ℕ) (n : ℕ) → keys ≡ overwrite lent 0 (contentsOf many words .keys) → n ≡ length (contentsOf many words .keys) → take n keys ≡ contentsOf many words .keys
-  keys-read lent keys n e h = starts-with keys lent (contentsOf many words .keys) n e (sym h)
+  pub keys-read : (lent keys : List ℕ) (n : ℕ) → keys ≡ overwrite lent 0 (keysIn (contentsOf many words)) → n ≡ length (keysIn (contentsOf many words)) → take n keys ≡ keysIn (contentsOf many words)
+  keys-read lent keys n e h = starts-with keys lent (keysIn (contentsOf many words)) n e (sym h)
 
   pub can-be-compared : many ≤ mostSlots → lies leastOrder greatestOrder (getD words orderWord 0) ≡ true
-      → risesB (contentsOf many words .keys) ≡ true → Keys (getD words orderWord 0) (contentsOf many words .keys)
+      → risesB (keysIn (contentsOf many words)) ≡ true → Keys (getD words orderWord 0) (keysIn (contentsOf many words))
   can-be-compared few right e =
-      writable (getD words orderWord 0) (contentsOf many words .keys) right (rises-says (contentsOf many words .keys) e) (shown-nonzero many words)
+      writable (getD words orderWord 0) (keysIn (contentsOf many words)) right (rises-says (keysIn (contentsOf many words)) e) (shown-nonzero many words)
       (omega (arith, shown-fit many words))
 
-  pub compared : (keys : List ℕ) → keys ≡ contentsOf many words .keys
-      → same words (fresh many (record { order = getD words orderWord 0; keys = keys })) ≡ same words (fresh many (contentsOf many words))
+  pub compared : (keys tags : List ℕ) → keys ≡ keysIn (contentsOf many words) → tags ≡ tagsIn (contentsOf many words)
+      → All (λ e. isMeasure (e .measure) ≡ true) (contentsOf many words .entries)
+      → same words (fresh many (tagged (getD words orderWord 0) keys tags)) ≡ same words (fresh many (contentsOf many words))
   unfolding contentsOf
-  compared keys e = ap (λ (ks : List ℕ). same words (fresh many (record { order = getD words orderWord 0; keys = ks }))) e
+  compared keys tags e f right =
+      ap (λ (es : List Entry). same words (fresh many (record { order = getD words orderWord 0; entries = es })))
+      (ap₂ entriesTagged e f ∙ tagged-back (contentsOf many words .entries) right)

@@ -1,13 +1,16 @@
-// Examining a table: its keys are read and sorted, and its words compared with those of its order and keys.
+// Examining a table: its keys and the tags of their measures are read and sorted, and its words compared with those of its order and keys.
 ghost use mathlib.Core.Path.{_≡_};
 ghost use Prim.Native.Nat.{_<_, _≤_};
 ghost use lib.ListN.{length};
 ghost use mathlib.Core.Bool.{true, cond};
-ghost use Rattle.lists.specs.Lists.{overwrite};
+ghost use Rattle.lists.specs.Lists.{overwrite, risesB};
 ghost use Rattle.priority.specs.Priority.{HoldsConstants};
 ghost use Rattle.table.specs.Layout.{mostSlots, tableWords};
+ghost use Rattle.table.specs.Tags.{tagsIn};
 ghost use Rattle.table.specs.Table.{contentsOf};
 ghost use Rattle.table.specs.Sound.{soundWith};
+ghost use Rattle.table.specs.Contents.{keysIn};
+ghost use Rattle.table_decode.specs.Decode.{allStored};
 ghost use Rattle.table_examine.specs.Examine.{verdictOf};
 use priority::CONSTANT_COUNT;
 use table::ORDER_WORD;
@@ -18,23 +21,25 @@ pub enum Verdict {
     Unsound,
 }
 
-// Write at the start of `keys` what a table of `many` slots shows as its keys, rising where they differ; how many there are. What the other lists
-// then hold is left open.
+// Write at the start of `keys` what a table of `many` slots shows as its keys, rising where they differ, and at the start of `tags` the tags of their
+// measures; how many there are. What `tags` holds where a key stands twice, and what the other lists then hold, is left open.
 fn read_keys(
     table: &[u64],
     many: usize,
     keys: &mut [u64],
+    tags: &mut [u64],
     weights: &mut [u64],
     ranking: &mut [u16],
     spare: &mut [u16],
 ) -> usize
-    requires { ⌜ (tableWords many ≤ length (now table)) × (many ≤ mostSlots) ⌝ }
-    requires { ⌜ (many ≤ length (now keys)) × (many ≤ length (now weights)) × (many ≤ length (now ranking)) × (many ≤ length (now spare)) ⌝ }
-    ensures { λ r. ⌜ r ≡ length (contentsOf many (now (table .entry)) .keys) ⌝ }
-    ensures { λ _. ⌜ now (keys .exit) ≡ overwrite (now (keys .entry)) 0 (contentsOf many (now (table .entry)) .keys) ⌝ }
+    requires { ⌜ (tableWords many ≤ length (now table)) × (many ≤ mostSlots) × (allStored many (now table) ≡ true) ⌝ }
+    requires { ⌜ (many ≤ length (now keys)) × (many ≤ length (now weights)) × (many ≤ length (now ranking)) × (many ≤ length (now spare)) × (many ≤ length (now tags)) ⌝ }
+    ensures { λ r. ⌜ r ≡ length (keysIn (contentsOf many (now (table .entry)))) ⌝ }
+    ensures { λ _. ⌜ now (keys .exit) ≡ overwrite (now (keys .entry)) 0 (keysIn (contentsOf many (now (table .entry)))) ⌝ }
+    ensures { λ _. ⌜ (risesB (keysIn (contentsOf many (now (table .entry)))) ≡ true → now (tags .exit) ≡ overwrite (now (tags .entry)) 0 (tagsIn (contentsOf many (now (table .entry))))) ⌝ }
 {
-    let n = table_decode::collect(table, many, keys);
-    table_decode::sort_keys(keys, n, weights, ranking, spare);
+    let n = table_decode::collect(table, many, keys, tags);
+    table_decode::sort_keys(keys, tags, n, weights, ranking, spare);
     n
 }
 
@@ -54,6 +59,7 @@ fn examine_within(
     table: &[u64],
     many: usize,
     keys: &mut [u64],
+    tags: &mut [u64],
     weights: &mut [u64],
     ranking: &mut [u16],
     left: &mut [u16],
@@ -64,17 +70,18 @@ fn examine_within(
     slots: &mut [u16],
     constants: &[u64; CONSTANT_COUNT],
 ) -> Verdict
-    requires { ⌜ (0 < many) × (many ≤ mostSlots) × (length (now table) ≡ tableWords many) × (many ≤ length (now keys)) ⌝ }
+    requires { ⌜ (0 < many) × (many ≤ mostSlots) × (length (now table) ≡ tableWords many) × (many ≤ length (now keys)) × (many ≤ length (now tags)) × (allStored many (now table) ≡ true) ⌝ }
     requires { ⌜ (many ≤ length (now weights)) × (many ≤ length (now ranking)) × (many ≤ length (now left)) × (many ≤ length (now right)) ⌝ }
     requires { ⌜ (many ≤ length (now rank)) × (many ≤ length (now count)) × (many ≤ length (now leader)) × (many ≤ length (now slots)) × HoldsConstants (now constants) ⌝ }
     ensures { λ r. ⌜ r ≡ verdictOf many (now (table .entry)) ⌝ }
-    ensures { λ _. ⌜ (soundWith many (now (table .entry)) ≡ true → now (keys .exit) ≡ overwrite (now (keys .entry)) 0 (contentsOf many (now (table .entry)) .keys)) ⌝ }
+    ensures { λ _. ⌜ (soundWith many (now (table .entry)) ≡ true → now (keys .exit) ≡ overwrite (now (keys .entry)) 0 (keysIn (contentsOf many (now (table .entry))))) ⌝ }
+    ensures { λ _. ⌜ (soundWith many (now (table .entry)) ≡ true → now (tags .exit) ≡ overwrite (now (tags .entry)) 0 (tagsIn (contentsOf many (now (table .entry))))) ⌝ }
 {
     let order = table[ORDER_WORD];
     if !table_limits::is_order(order) {
         return Verdict::Unsound;
     }
-    let n = read_keys(table, many, keys, weights, ranking, left);
+    let n = read_keys(table, many, keys, tags, weights, ranking, left);
     if !table_decode::rises(keys, n) {
         return Verdict::Unsound;
     }
@@ -95,6 +102,7 @@ fn examine_within(
     let same = table_encode::matches(
         order,
         &keys[..n],
+        &tags[..n],
         root,
         left,
         right,
@@ -107,17 +115,19 @@ fn examine_within(
     conclude(same, n)
 }
 
-// Examine a table of `many` slots; where it is sound, its keys, rising, are then at the start of `keys`; where it is not, what `keys`
-// holds is left open. Internal to this library's crates: they lend the constants of the priorities.
-pub fn examine(
+// Examine a table of `many` slots whose measures are within the rules, with room for it.
+fn examine_with_room(
     table: &[u64],
     many: usize,
     keys: &mut [u64],
+    tags: &mut [u64],
     constants: &[u64; CONSTANT_COUNT],
 ) -> Verdict
-    requires { ⌜ (0 < many) × (many ≤ mostSlots) × (length (now table) ≡ tableWords many) × (many ≤ length (now keys)) × HoldsConstants (now constants) ⌝ }
+    requires { ⌜ (0 < many) × (many ≤ mostSlots) × (length (now table) ≡ tableWords many) × (many ≤ length (now keys)) × (many ≤ length (now tags)) × (allStored many (now table) ≡ true) ⌝ }
+    requires { ⌜ HoldsConstants (now constants) ⌝ }
     ensures { λ r. ⌜ r ≡ verdictOf many (now (table .entry)) ⌝ }
-    ensures { λ _. ⌜ (soundWith many (now (table .entry)) ≡ true → now (keys .exit) ≡ overwrite (now (keys .entry)) 0 (contentsOf many (now (table .entry)) .keys)) ⌝ }
+    ensures { λ _. ⌜ (soundWith many (now (table .entry)) ≡ true → now (keys .exit) ≡ overwrite (now (keys .entry)) 0 (keysIn (contentsOf many (now (table .entry))))) ⌝ }
+    ensures { λ _. ⌜ (soundWith many (now (table .entry)) ≡ true → now (tags .exit) ≡ overwrite (now (tags .entry)) 0 (tagsIn (contentsOf many (now (table .entry))))) ⌝ }
 {
     let mut weights = [0u64; 4096];
     let mut ranking = [0u16; 4096];
@@ -131,6 +141,7 @@ pub fn examine(
         table,
         many,
         keys,
+        tags,
         &mut weights,
         &mut ranking,
         &mut left,
@@ -141,4 +152,24 @@ pub fn examine(
         &mut slots,
         constants,
     )
+}
+
+// Examine a table of `many` slots; where it is sound, its keys, rising, are then at the start of `keys`, and the tags of their measures at the
+// start of `tags`; where it is not, what these hold is left open. Internal to this library's crates: they lend the constants of the priorities.
+pub fn examine(
+    table: &[u64],
+    many: usize,
+    keys: &mut [u64],
+    tags: &mut [u64],
+    constants: &[u64; CONSTANT_COUNT],
+) -> Verdict
+    requires { ⌜ (0 < many) × (many ≤ mostSlots) × (length (now table) ≡ tableWords many) × (many ≤ length (now keys)) × (many ≤ length (now tags)) × HoldsConstants (now constants) ⌝ }
+    ensures { λ r. ⌜ r ≡ verdictOf many (now (table .entry)) ⌝ }
+    ensures { λ _. ⌜ (soundWith many (now (table .entry)) ≡ true → now (keys .exit) ≡ overwrite (now (keys .entry)) 0 (keysIn (contentsOf many (now (table .entry))))) ⌝ }
+    ensures { λ _. ⌜ (soundWith many (now (table .entry)) ≡ true → now (tags .exit) ≡ overwrite (now (tags .entry)) 0 (tagsIn (contentsOf many (now (table .entry))))) ⌝ }
+{
+    if !table_decode::are_stored(table, many) {
+        return Verdict::Unsound;
+    }
+    examine_with_room(table, many, keys, tags, constants)
 }

@@ -18,6 +18,7 @@ use Rattle.table_find.specs.declared.Found.{Found}
 use Rattle.table_find.specs.declared.Found.the-variants.{At, Nowhere}
 use Rattle.table_find.proofs.Searching.{stops-on-empty, stops-on-key, stops-says, slot-comes-up, Ends, where-search-ends, found-at, found-nowhere}
 use Rattle.table_find.proofs.Searching.Ends.{ends-at, ends-nowhere}
+use Rattle.table.specs.Contents.{keysIn}
 use Rattle.table_find.proofs.Finding.{held-key-found, absent-key-nowhere}
 
 -- ---- any words
@@ -56,7 +57,7 @@ module _ (many : ℕ) (some : 0 < many) (words : List ℕ) (key priority : ℕ) 
 
 -- ---- a sound table
 module _ (words : List ℕ) (sound : Sound words) where
-  tells-its-slot : (key : ℕ) → member key (sound .contents .keys) ≡ true
+  tells-its-slot : (key : ℕ) → member key (keysIn (sound .contents)) ≡ true
       → TellsItsSlot (sound .many) words key (searched (sound .many) words key (priorityOf key))
   unfolding TellsItsSlot
   tells-its-slot key m =
@@ -67,7 +68,7 @@ module _ (words : List ℕ) (sound : Sound words) where
       in
       rw (found-at many (slotFound many words key (priorityOf key)) (there .below)) there
 
-  module _ (key priority : ℕ) (absent : member key (sound .contents .keys) ≡ false) where
+  module _ (key priority : ℕ) (absent : member key (keysIn (sound .contents)) ≡ false) where
     nowhere : (slot : ℕ) → keyIn words slot ≡ key → key ≡ 0
     nowhere slot e =
         absent-key-nowhere (sound .many) (sound .contents) (sound .some) (sound .valid) key slot absent

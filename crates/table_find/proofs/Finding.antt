@@ -22,7 +22,7 @@ use Rattle.treap.specs.Treap.{outranks}
 use Rattle.treap.specs.Slots.{probes, slotsOf}
 use Rattle.table_slots.proofs.Placing.{empties-replicate}
 use Rattle.table.specs.Layout.{keyIn}
-use Rattle.table.specs.Contents.{Contents, IsKey, Valid}
+use Rattle.table.specs.Contents.{Contents, IsKey, Valid, keysIn}
 use Rattle.table.specs.Table.{homeIn, fresh}
 use Rattle.table.proofs.Words.{placedKeys, placed-length, fresh-length, fresh-key}
 use Rattle.table_find.specs.Find.{stopsAt, slotFound, OnlyAt}
@@ -73,10 +73,10 @@ module _ (many : ℕ) (c : Contents) where
 -- ---- placing the keys of a table
 -- The keys in the order in which they are placed.
 abbrev inOrder : Contents → List ℕ
-inOrder c = sortBy (outranks priorityOf) (c .keys)
+inOrder c = sortBy (outranks priorityOf) (keysIn c)
 
-order-permutes : (c : Contents) → List·Permᴰ (c .keys) (inOrder c)
-order-permutes c = Permᴰ·symm (sortBy-permutes (outranks priorityOf) (c .keys))
+order-permutes : (c : Contents) → List·Permᴰ (keysIn c) (inOrder c)
+order-permutes c = Permᴰ·symm (sortBy-permutes (outranks priorityOf) (keysIn c))
 
 module _ (many : ℕ) (c : Contents) (some : 1 ≤ many) (valid : Valid many c) where
   home-inside : (k : ℕ) → homeIn many k < many
@@ -90,41 +90,41 @@ module _ (many : ℕ) (c : Contents) (some : 1 ≤ many) (valid : Valid many c) 
         enough = omega (arith, length-permuted (order-permutes c), empties-replicate many, valid .keys-fit);
         apart =
             all-permuted (λ x. x ≢ 0) (order-permutes c)
-            (all-map IsKey (λ x. x ≢ 0) (λ x h e. omega arith) (c .keys) (valid .keys-right));
+            (all-map IsKey (λ x. x ≢ 0) (λ x h e. omega arith) (keysIn c) (valid .keys-right));
       }
 
   different : Pairwise _≢_ (inOrder c)
   different =
       apart-permuted (order-permutes c)
-      (pairwise-map (λ _. Unit {0}) _<_ _≢_ (λ x y _ _ (h : x < y) e. omega arith) (c .keys)
-      (all-always (λ _. Unit {0}) (λ _. tt) (c .keys)) (valid .keys-rise))
+      (pairwise-map (λ _. Unit {0}) _<_ _≢_ (λ x y _ _ (h : x < y) e. omega arith) (keysIn c)
+      (all-always (λ _. Unit {0}) (λ _. tt) (keysIn c)) (valid .keys-rise))
 
-  held-key-lands : (k : ℕ) → 1 ≤ k → member k (c .keys) ≡ true → Lands many (homeIn many k) k (placedKeys many c)
+  held-key-lands : (k : ℕ) → 1 ≤ k → member k (keysIn c) ≡ true → Lands many (homeIn many k) k (placedKeys many c)
   unfolding slotsOf
   held-key-lands k positive m =
-      let kept : All (λ x. member x (inOrder c) ≡ true) (c .keys) =
+      let kept : All (λ x. member x (inOrder c) ≡ true) (keysIn c) =
       all-permuted (λ x. member x (inOrder c) ≡ true) (Permᴰ·symm (order-permutes c))
       (all-of-members (λ x. member x (inOrder c) ≡ true) (inOrder c) (λ x h. h))
       in
       placed-lands (homeIn many) many home-inside k (λ e. omega arith) (replicate many 0) (inOrder c) room different
-      (all-member (λ x. member x (inOrder c) ≡ true) (c .keys) k kept m) (empty-at-first many k positive)
+      (all-member (λ x. member x (inOrder c) ≡ true) (keysIn c) k kept m) (empty-at-first many k positive)
 
-  other-key-absent : (k : ℕ) → 1 ≤ k → member k (c .keys) ≡ false → Absent k (placedKeys many c)
+  other-key-absent : (k : ℕ) → 1 ≤ k → member k (keysIn c) ≡ false → Absent k (placedKeys many c)
   unfolding slotsOf
   other-key-absent k positive m =
       absent-after (homeIn many) many home-inside k (replicate many 0) (inOrder c) room
       (all-permuted (λ x. x ≢ k) (order-permutes c)
-      (all-of-members (λ x. x ≢ k) (c .keys)
-      (λ x h e. true-or-false (member x (c .keys)) h (ap (λ (z : ℕ). member z (c .keys)) e ∙ m))))
+      (all-of-members (λ x. x ≢ k) (keysIn c)
+      (λ x h e. true-or-false (member x (keysIn c)) h (ap (λ (z : ℕ). member z (keysIn c)) e ∙ m))))
       (empty-at-first many k positive)
 
   -- ---- the laws of the search
   -- "In a sound table, handed a held key's own priority, it finds that key's slot."
-  pub held-key-found : (k : ℕ) → member k (c .keys) ≡ true
+  pub held-key-found : (k : ℕ) → member k (keysIn c) ≡ true
       → OnlyAt many (fresh many c) k (slotFound many (fresh many c) k (priorityOf k))
   unfolding homeIn
   held-key-found k m =
-      let positive = all-member IsKey (c .keys) k (valid .keys-right) m .0 in
+      let positive = all-member IsKey (keysIn c) k (valid .keys-right) m .0 in
       let lands = held-key-lands k positive m in
       let s = endOf many (homeIn many k) k (placedKeys many c) in
       rw found-is-end
@@ -135,7 +135,7 @@ module _ (many : ℕ) (c : Contents) (some : 1 ≤ many) (valid : Valid many c) 
       })
 
   -- a key that is not held stands in no slot, but for 0, which stands in the empty ones
-  pub absent-key-nowhere : (k s : ℕ) → member k (c .keys) ≡ false → keyIn (fresh many c) s ≡ k → k ≡ 0
+  pub absent-key-nowhere : (k s : ℕ) → member k (keysIn c) ≡ false → keyIn (fresh many c) s ≡ k → k ≡ 0
   absent-key-nowhere k s m e =
       by-test (eqb k 0)
       (λ t. eqb-true k 0 t)

@@ -10,6 +10,7 @@ use Rattle.table.specs.Layout.{keyIn}
 use Rattle.table.specs.Table.{Sound}
 use Rattle.table_find.specs.Find.{searched, OnlyAt}
 use Rattle.table_find.specs.declared.Found.{Found}
+use Rattle.table.specs.Contents.{keysIn}
 use Rattle.table_find.specs.declared.Found.the-variants.{At, Nowhere}
 
 -- The slot so many steps "from that number's home on, slot 0 following the last".
@@ -50,8 +51,8 @@ pub record Search : Type 0 where
   pub any-number : (many : ℕ) → 0 < many → (words : List ℕ) (key priority : ℕ)
       → TellsFirst many words key priority (searched many words key priority)
   -- "In a sound table, handed a held key's own priority, it finds that key's slot."
-  pub held-key : (words : List ℕ) (sound : Sound words) (key : ℕ) → member key (sound .contents .keys) ≡ true
+  pub held-key : (words : List ℕ) (sound : Sound words) (key : ℕ) → member key (keysIn (sound .contents)) ≡ true
       → TellsItsSlot (sound .many) words key (searched (sound .many) words key (priorityOf key))
   -- for a key that a sound table does not hold, handed any number, it ends at an empty slot or says that there is none
-  pub absent-key : (words : List ℕ) (sound : Sound words) (key priority : ℕ) → member key (sound .contents .keys) ≡ false
+  pub absent-key : (words : List ℕ) (sound : Sound words) (key priority : ℕ) → member key (keysIn (sound .contents)) ≡ false
       → TellsNoKey (sound .many) words (searched (sound .many) words key priority)

@@ -15,7 +15,8 @@ fn decide(table: &[u64], many: usize, constants: &[u64; CONSTANT_COUNT]) -> Verd
     ensures { λ r. ⌜ r ≡ verdictOf many (now (table .entry)) ⌝ }
 {
     let mut keys = [0u64; 4096];
-    table_examine::examine(table, many, &mut keys, constants)
+    let mut tags = [0u64; 4096];
+    table_examine::examine(table, many, &mut keys, &mut tags, constants)
 }
 
 // Whether a table is sound, whatever its words and their number.

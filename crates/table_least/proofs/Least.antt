@@ -1,22 +1,24 @@
 -- The least key of a range, found slot by slot. Assumes nothing.
 use mathlib.Core.Bool.{Bool, true, false, cond, _&&_, _||_, not}
 use mathlib.Core.List.{List, [], _∷_, _++_, map, map-append, append-nil}
-use mathlib.Core.Logic.{_≢_, ⊎-elim}
+use mathlib.Core.Logic.{_≢_}
 use mathlib.Core.Path.{_≡_, refl, sym, ap, _∙_, subst}
-use Prim.Native.Nat.{ℕ, zero, suc, _+_, _<_, _≤_}
+use Prim.Native.Nat.{ℕ, suc, _+_, _<_, _≤_}
 use native.Mathlib.Nat.{zero-add}
 use native.Mathlib.Omega.{arith}
 use lib.Dec.{eqb, ltb}
-use borrow.Author.Tests.{eq-eqb, ne-eqb, lt-ltb, le-ltb, eqb-true, eqb-false, ltb-true, ltb-false}
+use borrow.Author.Tests.{eq-eqb, ne-eqb, lt-ltb, le-ltb, eqb-true, eqb-false, ltb-true}
 use Rattle.lists.specs.Lists.{All, Pairwise, consIf, first, keep, insertBy, sortBy, upFrom, lies, nonzero}
 use Rattle.lists.proofs.Tests.{by-test, or-true-left, or-true-right}
 use Rattle.lists.proofs.Keep.{keep-append}
 use Rattle.lists.proofs.Membership.{first-found}
 use Rattle.lists.proofs.Sorted.{sorted-ordered, sorted-more}
 use Rattle.lists.proofs.UpFrom.{upFrom-end}
-use Rattle.table.specs.Layout.{keyIn, slotKeys}
-use Rattle.table.specs.Table.{heldKeys, contentsOf}
-use Rattle.table.proofs.Soundness.{shown-nonzero}
+use Rattle.table.specs.Layout.{keyIn}
+use Rattle.table.specs.Table.{contentsOf}
+use Rattle.table.proofs.Words.{slotKeys, heldKeys}
+use Rattle.table.proofs.Soundness.{shown-held, shown-nonzero}
+use Rattle.table.specs.Contents.{keysIn}
 use Rattle.table_least.specs.LeastKey.{leastWithin, lesser}
 
 -- ---- a key put in its place among others
@@ -58,28 +60,32 @@ module _ (words : List ℕ) (slot : ℕ) where
   held-more : keep nonzero (slotKeys (suc slot) words) ≡ keep nonzero (slotKeys slot words) ++ keep nonzero (keyIn words slot ∷ [])
   held-more = ap (keep nonzero) slot-more ∙ keep-append nonzero (slotKeys slot words) (keyIn words slot ∷ [])
 
-  shown-same : keyIn words slot ≡ 0 → contentsOf (suc slot) words .keys ≡ contentsOf slot words .keys
-  unfolding contentsOf heldKeys
+  shown-same : keyIn words slot ≡ 0 → keysIn (contentsOf (suc slot) words) ≡ keysIn (contentsOf slot words)
+  unfolding heldKeys
   shown-same e =
-      ap (sortBy ltb)
+      shown-held (suc slot) words
+      ∙ ap (sortBy ltb)
       (held-more
       ∙ ap (λ (k : ℕ). keep nonzero (slotKeys slot words) ++ keep nonzero (k ∷ [])) e
       ∙ append-nil (keep nonzero (slotKeys slot words)))
+      ∙ sym (shown-held slot words)
 
-  shown-more : keyIn words slot ≢ 0 → contentsOf (suc slot) words .keys ≡ insertBy ltb (keyIn words slot) (contentsOf slot words .keys)
-  unfolding contentsOf heldKeys
+  shown-more : keyIn words slot ≢ 0 → keysIn (contentsOf (suc slot) words) ≡ insertBy ltb (keyIn words slot) (keysIn (contentsOf slot words))
+  unfolding heldKeys
   shown-more d =
-      ap (sortBy ltb)
+      shown-held (suc slot) words
+      ∙ ap (sortBy ltb)
       (held-more
       ∙ ap (λ b. keep nonzero (slotKeys slot words) ++ consIf (not b) (keyIn words slot) []) (ne-eqb (keyIn words slot) 0 d))
       ∙ sorted-more (keep nonzero (slotKeys slot words)) (keyIn words slot)
+      ∙ ap (insertBy ltb (keyIn words slot)) (sym (shown-held slot words))
 
-  shown-sorted : Pairwise _≤_ (contentsOf slot words .keys)
-  unfolding contentsOf heldKeys
-  shown-sorted = sorted-ordered (keep nonzero (slotKeys slot words))
+  shown-sorted : Pairwise _≤_ (keysIn (contentsOf slot words))
+  unfolding heldKeys
+  shown-sorted = subst (Pairwise _≤_) (sym (shown-held slot words)) (sorted-ordered (keep nonzero (slotKeys slot words)))
 
   -- the least key of a slot more
-  pub least-more : (low high : ℕ) → leastWithin low high (contentsOf (suc slot) words .keys) ≡ lesser low high (leastWithin low high (contentsOf slot words .keys)) (keyIn words slot)
+  pub least-more : (low high : ℕ) → leastWithin low high (keysIn (contentsOf (suc slot) words)) ≡ lesser low high (leastWithin low high (keysIn (contentsOf slot words))) (keyIn words slot)
   unfolding leastWithin lesser choose
   least-more low high =
       by-test (eqb (keyIn words slot) 0)
@@ -87,11 +93,11 @@ module _ (words : List ℕ) (slot : ℕ) where
       (λ e.
       rw e
       (ap (first 0 (lies low high)) (shown-more (eqb-false (keyIn words slot) 0 e))
-      ∙ first-put (lies low high) (keyIn words slot) (contentsOf slot words .keys) shown-sorted (shown-nonzero slot words)))
+      ∙ first-put (lies low high) (keyIn words slot) (keysIn (contentsOf slot words)) shown-sorted (shown-nonzero slot words)))
 
-pub least-none : (words : List ℕ) (low high : ℕ) → 0 ≡ leastWithin low high (contentsOf 0 words .keys)
-unfolding leastWithin contentsOf heldKeys slotKeys
-least-none words low high = refl
+pub least-none : (words : List ℕ) (low high : ℕ) → 0 ≡ leastWithin low high (keysIn (contentsOf 0 words))
+unfolding leastWithin heldKeys slotKeys
+least-none words low high = ap (first 0 (lies low high)) (sym (shown-held 0 words))
 
 -- ---- the lesser of two, test by test
 module _ (low high least key : ℕ) where

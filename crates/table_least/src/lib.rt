@@ -4,6 +4,7 @@ ghost use Prim.Native.Nat.{_≤_};
 ghost use lib.ListN.{length};
 ghost use Rattle.table.specs.Layout.{tableWords};
 ghost use Rattle.table.specs.Table.{contentsOf};
+ghost use Rattle.table.specs.Contents.{keysIn};
 ghost use Rattle.table_least.specs.LeastKey.{leastWithin, lesser};
 use table::HEADER_WORDS;
 use table::KEY_FIELD;
@@ -29,7 +30,7 @@ fn lesser_of(least: u64, key: u64, low: u64, high: u64) -> u64
 // Internal to this library's crates: their tables have the words of `many` slots.
 pub fn least_within(table: &[u64], many: usize, low: u64, high: u64) -> u64
     requires { ⌜ tableWords many ≤ length (now table) ⌝ }
-    ensures { λ r. ⌜ r ≡ leastWithin low high (contentsOf many (now (table .entry)) .keys) ⌝ }
+    ensures { λ r. ⌜ r ≡ leastWithin low high (keysIn (contentsOf many (now (table .entry)))) ⌝ }
 {
     let mut least = 0;
     for slot in 0..many {

@@ -9,7 +9,7 @@ use Rattle.lists.specs.Lists.{lies, All, Rising}
 use Rattle.lists.proofs.Tests.{lies-says}
 use Rattle.lists.proofs.Keep.{all-map}
 use Rattle.table.specs.Layout.{mostSlots, leastOrder, greatestOrder}
-use Rattle.table.specs.Contents.{Contents, tableOrder, IsKey, Valid}
+use Rattle.table.specs.Contents.{Contents, tableOrder, IsKey, Valid, keysIn}
 use Rattle.table_prepare.specs.Prepared.{Keys}
 
 -- what was tested can be written
@@ -19,8 +19,8 @@ writable order keys right rising some few =
     record { wide = omega (arith, within .0); narrow = within .1; rising = rising; some = some; few = few }
 
 -- and so can what a table may hold
-pub valid-keys : (many : ℕ) (c : Contents) → many ≤ mostSlots → Valid many c → Keys (c .order) (c .keys)
+pub valid-keys : (many : ℕ) (c : Contents) → many ≤ mostSlots → Valid many c → Keys (c .order) (keysIn c)
 unfolding tableOrder
 valid-keys many c most valid =
-    writable (c .order) (c .keys) (valid .order-right) (valid .keys-rise) (all-map IsKey (λ k. 1 ≤ k) (λ k h. h .0) (c .keys) (valid .keys-right))
+    writable (c .order) (keysIn c) (valid .order-right) (valid .keys-rise) (all-map IsKey (λ k. 1 ≤ k) (λ k h. h .0) (keysIn c) (valid .keys-right))
     (omega (arith, valid .keys-fit))

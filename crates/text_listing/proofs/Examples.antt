@@ -2,6 +2,7 @@
 use mathlib.Core.List.{[], _∷_, flatMap}
 use mathlib.Core.Path.{_≡_, refl}
 use Prim.Native.Nat.{ℕ}
+use Rattle.measure.specs.Measure.{unmeasured}
 use Rattle.priority.specs.Priority.{priorityOf}
 use Rattle.treap.specs.Treap.{top, treap, outranksRest}
 use Rattle.treap.specs.Levels.{nextLevel, rank, count}
@@ -18,7 +19,7 @@ pub single : (p : ℕ → ℕ)
 unfolding listing headerLine blockLines blockLine keyLineOf keyLine decimal hexadecimal blocks rootBlock rootRank fill top treap outranksRest rank count nextLevel flatMap
 single p = refl
 
-pub single-listing : listingOf (record { order = 3; keys = 5 ∷ [] })
+pub single-listing : listingOf (record { order = 3; entries = record { key = 5; measure = unmeasured } ∷ [] })
     ≡ ascii "order 3 keys 1 blocks 1 fill 20 root 0000000000000005\nblock 0000000000000005 level 0 keys 1\nkey 0000000000000005 rank 0 count 1\n"
 unfolding listingOf
 single-listing = single priorityOf

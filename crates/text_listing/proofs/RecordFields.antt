@@ -2,8 +2,10 @@
 use mathlib.Core.List.{List, _++_}
 use mathlib.Core.Path.{_≡_}
 use Prim.Native.Nat.{ℕ, _^_, _<_}
-use Rattle.treap.specs.Image.{countBytes, keyBytes, headerRecord, blockRecord, nodeRecord}
-use Rattle.image.specs.Layout.{sizeAt, rootAt, leaderAt, levelAt, keyAt, rankAt, countAt}
+use lib.Dec.{eqb}
+use Rattle.lists.proofs.Tests.{by-test}
+use Rattle.treap.specs.Image.{countBytes, keyBytes, headerRecord, blockRecord, nodeFields, nodeRecord}
+use Rattle.image.specs.Layout.{sizeAt, rootAt, leaderAt, levelAt, rankAt, countAt}
 use Rattle.image.specs.Image.{fieldAt}
 use Rattle.image.proofs.Bytes.{number-of-bytes}
 
@@ -25,15 +27,12 @@ module _ (leader level n : ℕ) (rest : List ℕ) where
   unfolding blockRecord fieldAt
   block-level h = number-of-bytes countBytes level h
 
-module _ (key left right rank count : ℕ) where
-  pub node-key : key < 2 ^ 64 → fieldAt keyAt keyBytes (nodeRecord key left right rank count) ≡ key
-  unfolding nodeRecord fieldAt
-  node-key h = number-of-bytes keyBytes key h
+-- a key's record, measured or not
+module _ (key left right rank count long stored : ℕ) (rest : List ℕ) where
+  pub node-rank : rank < 65536 → fieldAt rankAt countBytes (nodeRecord key left right rank count long stored ++ rest) ≡ rank
+  unfolding nodeRecord nodeFields fieldAt
+  node-rank h = by-test (eqb long 0) (λ e. rw e (number-of-bytes countBytes rank h)) (λ e. rw e (number-of-bytes countBytes rank h))
 
-  pub node-rank : rank < 65536 → fieldAt rankAt countBytes (nodeRecord key left right rank count) ≡ rank
-  unfolding nodeRecord fieldAt
-  node-rank h = number-of-bytes countBytes rank h
-
-  pub node-count : count < 65536 → fieldAt countAt countBytes (nodeRecord key left right rank count) ≡ count
-  unfolding nodeRecord fieldAt
-  node-count h = number-of-bytes countBytes count h
+  pub node-count : count < 65536 → fieldAt countAt countBytes (nodeRecord key left right rank count long stored ++ rest) ≡ count
+  unfolding nodeRecord nodeFields fieldAt
+  node-count h = by-test (eqb long 0) (λ e. rw e (number-of-bytes countBytes count h)) (λ e. rw e (number-of-bytes countBytes count h))

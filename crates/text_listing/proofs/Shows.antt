@@ -1,33 +1,34 @@
 -- The records of an image show its listing. Assumes valid contents; of blocks, where any are read, that their numbers fit their
 -- fields.
 use mathlib.Core.Bool.{true}
-use mathlib.Core.List.{List, [], _∷_, _++_, flatMap}
+use mathlib.Core.List.{List, [], _∷_, _++_, flatMap, append-assoc}
 use mathlib.Core.Path.{_≡_, refl, sym, ap, ap₂, _∙_, subst, subst₂}
-use Prim.Native.Nat.{ℕ, _+_, _*_, _≤_}
+use Prim.Native.Nat.{ℕ, suc, _+_, _≤_}
 use native.Mathlib.Omega.{arith}
 use lib.ListN.{length, drop, length-append}
-use lib.Seq.{take-at, drop-at}
+use lib.Seq.{drop-at}
 use Rattle.lists.specs.Lists.{All, member}
 use Rattle.lists.proofs.Keep.{all-map, all-both}
 use Rattle.lists.proofs.Membership.{all-member}
+use Rattle.measure.specs.Measure.{storedCorrection}
 use Rattle.priority.specs.Priority.{priorityOf}
 use Rattle.treap.specs.Treap.{top, leftLink, rightLink}
 use Rattle.treap.specs.Levels.{rank, count}
 use Rattle.treap.specs.Blocks.{Block, blocks, fill}
-use Rattle.treap.specs.Image.{orderBytes, countBytes, keyBytes, headerRecord, nodeOf, blockPart, image}
+use Rattle.treap.specs.Image.{orderBytes, countBytes, keyBytes, headerRecord, blockRecord, nodeRecord, nodeOf, blockPart, image}
 use Rattle.treap_structure.proofs.Blocks.{Holds, blocks-hold}
 use Rattle.table.specs.Layout.{mostSlots}
-use Rattle.table.specs.Contents.{Contents, Valid}
-use Rattle.image.specs.Layout.{headerBytes, blockBytes, nodeBytes, orderAt, sizeAt, blocksAt, rootAt, heldAt, IsByte}
-use Rattle.image.specs.Image.{imageOf, readImage, isImage, fieldAt}
-use Rattle.image.proofs.Bytes.{field-before}
+use Rattle.table.specs.Contents.{Contents, Valid, keysIn, measureIn}
+use Rattle.image.specs.Layout.{headerBytes, blockBytes, orderAt, sizeAt, blocksAt, rootAt, heldAt, IsByte}
+use Rattle.image.specs.Image.{imageOf, readImage, isImage, fieldAt, nodesSpan}
 use Rattle.image.proofs.Judging.{is-image-says}
-use Rattle.image.proofs.Records.{header-length, header-order, header-blocks, header-dropped, block-held, block-dropped}
-use Rattle.image.proofs.Lengths.{nodeOf-length, blockPart-length, order-within, image-longest}
+use Rattle.image.proofs.Records.{header-length, header-order, header-blocks, header-dropped, block-held, block-dropped, node-key}
+use Rattle.image.proofs.Lengths.{blockPart-length, order-within, image-longest}
+use Rattle.image.proofs.Reading.{nodeOf-left, nodes-first, nodes-span}
 use Rattle.image.proofs.Fits.{HeaderFits, BlockFits, NodeFits, header-fits, blocks-fit-fields, nodes-fit-fields}
 use Rattle.text_listing.specs.Listing.{keyLineOf, blockLines, listing, listingOf}
-use Rattle.text_listing.specs.Shown.{shownKey, shownKeys, heldIn, partBytes, shownBlock, shownBlocks, shown, HasBlocks, HasRecords, mostBytes}
-use Rattle.text_listing.proofs.RecordFields.{header-size, header-root, block-leader, block-level, node-key, node-rank, node-count}
+use Rattle.text_listing.specs.Shown.{shownKey, shownKeys, heldIn, partBytes, shownBlockLine, shownBlock, shownBlocks, shown, HasBlocks, HasRecords, mostBytes}
+use Rattle.text_listing.proofs.RecordFields.{header-size, header-root, block-leader, block-level, node-rank, node-count}
 use Rattle.text_listing.proofs.Walking.{key-line-shown, block-line-shown, header-line-shown}
 
 -- A block whose records show its lines.
@@ -37,76 +38,92 @@ pub record Listable (c : Contents) (b : Block) : Type 0 where
 
 module _ (c : Contents) where
   abbrev node : ℕ → List ℕ
-  node = nodeOf (c .order) priorityOf (c .keys)
+  node = nodeOf (c .order) priorityOf (measureIn (c .entries)) (keysIn c)
 
   abbrev part : Block → List ℕ
-  part = blockPart (c .order) priorityOf (c .keys)
+  part = blockPart (c .order) priorityOf (measureIn (c .entries)) (keysIn c)
 
   abbrev line : ℕ → List ℕ
-  line = keyLineOf (c .order) priorityOf (c .keys)
+  line = keyLineOf (c .order) priorityOf (keysIn c)
 
   abbrev lines : Block → List ℕ
-  lines = blockLines (c .order) priorityOf (c .keys)
+  lines = blockLines (c .order) priorityOf (keysIn c)
 
-  -- ---- the keys
-  key-shown : (k : ℕ) → NodeFits c k → shownKey (node k) ≡ line k
+  -- ---- the keys, whatever follows them
+  key-shown : (k : ℕ) (rest : List ℕ) → NodeFits c k → shownKey (node k ++ rest) ≡ line k
   unfolding nodeOf keyLineOf
-  key-shown k fits =
-      let left = leftLink priorityOf (c .keys) k in
-      let right = rightLink priorityOf (c .keys) k in
-      let r = rank (c .order) priorityOf (c .keys) k in
-      let n = count (c .order) priorityOf (c .keys) k in
+  key-shown k rest fits =
+      let left = leftLink priorityOf (keysIn c) k in
+      let right = rightLink priorityOf (keysIn c) k in
+      let r = rank (c .order) priorityOf (keysIn c) k in
+      let n = count (c .order) priorityOf (keysIn c) k in
+      let long = measureIn (c .entries) k .length in
+      let stored = storedCorrection (measureIn (c .entries) k) in
       sym
-      (key-line-shown (nodeOf (c .order) priorityOf (c .keys) k) k r n (sym (node-key k left right r n (fits .key))) (sym (node-rank k left right r n (fits .rank-of)))
-      (sym (node-count k left right r n (fits .count-of))))
+      (key-line-shown (nodeRecord k left right r n long stored ++ rest) k r n (sym (node-key k left right r n long stored rest (fits .key))) (sym (node-rank k left right r n long stored rest (fits .rank-of)))
+      (sym (node-count k left right r n long stored rest (fits .count-of))))
 
-  keys-shown : (xs : List ℕ) → All (NodeFits c) xs → shownKeys (length xs) (flatMap node xs) ≡ flatMap line xs
+  keys-shown : (xs rest : List ℕ) → All (NodeFits c) xs → shownKeys (length xs) (flatMap node xs ++ rest) ≡ flatMap line xs
   unfolding flatMap
-  keys-shown [] h = refl
-  keys-shown (x ∷ xs) h =
-      ap₂ (λ (record-bytes rest : List ℕ). shownKey record-bytes ++ shownKeys (length xs) rest) (take-at (node x) (flatMap node xs) nodeBytes (long x)) (drop-at (node x) (flatMap node xs) nodeBytes (long x))
-      ∙ ap₂ (λ (a b : List ℕ). a ++ b) (key-shown x (h .0)) (keys-shown xs (h .1))
-    where
-      long : (k : ℕ) → length (node k) ≡ nodeBytes
-      long k = nodeOf-length (c .order) priorityOf (c .keys) k
+  keys-shown [] rest h = refl
+  keys-shown (x ∷ xs) rest h =
+      let later = flatMap node xs ++ rest in
+      ap (shownKeys (suc (length xs))) (nodes-first (c .order) priorityOf (measureIn (c .entries)) (keysIn c) x xs rest)
+      ∙ ap₂ (λ (text bytes : List ℕ). text ++ shownKeys (length xs) bytes) (key-shown x later (h .0)) (nodeOf-left (c .order) priorityOf (measureIn (c .entries)) (keysIn c) x later)
+      ∙ ap (λ (text : List ℕ). line x ++ text) (keys-shown xs rest (h .1))
 
-  -- ---- the blocks
-  block-shown : (b : Block) → Listable c b → shownBlock (part b) ≡ lines b
-  unfolding shownBlock heldIn blockPart blockLines
-  block-shown b fits =
-      let nodes = flatMap node (b .held) in
-      let n = length (b .held) in
-      let held = block-held (b .leaderKey) (b .level) n nodes (fits .block .size) in
-      ap₂ (λ (xs ys : List ℕ). xs ++ ys)
-      (sym
-      (block-line-shown (part b) (b .leaderKey) (b .level) n (sym (block-leader (b .leaderKey) (b .level) n nodes (fits .block .leader)))
-      (sym (block-level (b .leaderKey) (b .level) n nodes (fits .block .level))) (sym held)))
-      (ap₂ shownKeys held (block-dropped (b .leaderKey) (b .level) n nodes) ∙ keys-shown (b .held) (fits .nodes))
+  -- ---- the blocks, whatever follows them
+  module _ (b : Block) (fits : Listable c b) (rest : List ℕ) where
+    abbrev nodes : List ℕ
+    nodes = flatMap node (b .held) ++ rest
 
-  -- a block's records are as long as its record says
-  part-size : (b : Block) (rest : List ℕ) → Listable c b → length (part b) ≡ partBytes (part b ++ rest)
-  unfolding partBytes heldIn blockPart
-  part-size b rest fits =
-      let long = blockPart-length (c .order) priorityOf (c .keys) b in
-      long
-      ∙ ap (λ (n : ℕ). blockBytes + nodeBytes * n)
-      (sym (field-before (part b) rest heldAt countBytes (omega (arith, long)) ∙ block-held (b .leaderKey) (b .level) (length (b .held)) (flatMap node (b .held)) (fits .block .size)))
+    record-first : part b ++ rest ≡ blockRecord (b .leaderKey) (b .level) (length (b .held)) ++ nodes
+    unfolding blockPart
+    record-first = append-assoc (blockRecord (b .leaderKey) (b .level) (length (b .held))) (flatMap node (b .held)) rest
+
+    held-shown : heldIn (part b ++ rest) ≡ length (b .held)
+    unfolding heldIn
+    held-shown = ap (fieldAt heldAt countBytes) record-first ∙ block-held (b .leaderKey) (b .level) (length (b .held)) nodes (fits .block .size)
+
+    nodes-shown : drop blockBytes (part b ++ rest) ≡ nodes
+    nodes-shown = ap (drop blockBytes) record-first ∙ block-dropped (b .leaderKey) (b .level) (length (b .held)) nodes
+
+    block-shown : shownBlock (part b ++ rest) ≡ lines b
+    unfolding shownBlock heldIn blockLines
+    block-shown =
+        let n = length (b .held) in
+        ap₂ (λ (xs ys : List ℕ). xs ++ ys)
+        (ap shownBlockLine record-first
+        ∙ sym
+        (block-line-shown (blockRecord (b .leaderKey) (b .level) n ++ nodes) (b .leaderKey) (b .level) n (sym (block-leader (b .leaderKey) (b .level) n nodes (fits .block .leader)))
+        (sym (block-level (b .leaderKey) (b .level) n nodes (fits .block .level))) (sym (block-held (b .leaderKey) (b .level) n nodes (fits .block .size)))))
+        (ap₂ shownKeys held-shown nodes-shown ∙ keys-shown (b .held) rest (fits .nodes))
+
+    -- a block's records are as long as its record and theirs say
+    part-size : length (part b) ≡ partBytes (part b ++ rest)
+    unfolding partBytes
+    part-size =
+        blockPart-length (c .order) priorityOf (measureIn (c .entries)) (keysIn c) b
+        ∙ ap (λ (n : ℕ). blockBytes + n)
+        (sym
+        (ap₂ nodesSpan held-shown nodes-shown
+        ∙ nodes-span (c .order) priorityOf (measureIn (c .entries)) (keysIn c) (b .held) rest))
 
   blocks-shown : (bs : List Block) → All (Listable c) bs → shownBlocks (length bs) (flatMap part bs) ≡ flatMap lines bs
   unfolding flatMap
   blocks-shown [] h = refl
   blocks-shown (b ∷ bs) h =
       let rest = flatMap part bs in
-      let long = part-size b rest (h .0) in
-      ap₂ (λ (first later : List ℕ). shownBlock first ++ shownBlocks (length bs) later) (take-at (part b) rest (partBytes (part b ++ rest)) long) (drop-at (part b) rest (partBytes (part b ++ rest)) long)
-      ∙ ap₂ (λ (xs ys : List ℕ). xs ++ ys) (block-shown b (h .0)) (blocks-shown bs (h .1))
+      ap₂ (λ (text later : List ℕ). text ++ shownBlocks (length bs) later) (block-shown b (h .0) rest)
+      (drop-at (part b) rest (partBytes (part b ++ rest)) (part-size b (h .0) rest))
+      ∙ ap (λ (text : List ℕ). lines b ++ text) (blocks-shown bs (h .1))
 
   blocks-there : (bs : List Block) → All (Listable c) bs → HasBlocks (length bs) (flatMap part bs)
   unfolding flatMap
   blocks-there [] h = tt
   blocks-there (b ∷ bs) h =
       let rest = flatMap part bs in
-      let long = part-size b rest (h .0) in (
+      let long = part-size b (h .0) rest in (
         omega (arith, long, length-append (part b) rest),
         subst (HasBlocks (length bs)) (sym (drop-at (part b) rest (partBytes (part b ++ rest)) long)) (blocks-there bs (h .1)),
       )
@@ -117,49 +134,49 @@ module _ (c : Contents) (valid : Valid mostSlots c) where
   wide = omega (arith, order-within c valid)
 
   abbrev all-blocks : List Block
-  all-blocks = blocks (c .order) priorityOf (c .keys)
+  all-blocks = blocks (c .order) priorityOf (keysIn c)
 
   abbrev records : List ℕ
-  records = flatMap (blockPart (c .order) priorityOf (c .keys)) all-blocks
+  records = flatMap (blockPart (c .order) priorityOf (measureIn (c .entries)) (keysIn c)) all-blocks
 
   listable : All (Listable c) all-blocks
   listable =
-      all-map (λ b. BlockFits b × Holds (c .order) priorityOf (c .keys) wide (valid .keys-rise) b) (Listable c)
+      all-map (λ b. BlockFits b × Holds (c .order) priorityOf (keysIn c) wide (valid .keys-rise) b) (Listable c)
       (λ b h.
       record {
         block = h .0;
-        nodes = all-map (λ k. member k (c .keys) ≡ true) (NodeFits c) (λ k m. all-member (NodeFits c) (c .keys) k (nodes-fit-fields c valid) m) (b .held) (h .1 .keys-of);
+        nodes = all-map (λ k. member k (keysIn c) ≡ true) (NodeFits c) (λ k m. all-member (NodeFits c) (keysIn c) k (nodes-fit-fields c valid) m) (b .held) (h .1 .keys-of);
       })
       all-blocks
-      (all-both BlockFits (Holds (c .order) priorityOf (c .keys) wide (valid .keys-rise)) all-blocks (blocks-fit-fields c valid) (blocks-hold (c .order) priorityOf (c .keys) wide (valid .keys-rise)))
+      (all-both BlockFits (Holds (c .order) priorityOf (keysIn c) wide (valid .keys-rise)) all-blocks (blocks-fit-fields c valid) (blocks-hold (c .order) priorityOf (keysIn c) wide (valid .keys-rise)))
 
   -- the fields of the header, and what follows it
   module _ (fits : HeaderFits c) where
     order-read : fieldAt orderAt orderBytes (imageOf c) ≡ c .order
     unfolding imageOf image
-    order-read = header-order (c .order) (length (c .keys)) (length all-blocks) (top priorityOf (c .keys)) records (fits .order)
+    order-read = header-order (c .order) (length (keysIn c)) (length all-blocks) (top priorityOf (keysIn c)) records (fits .order)
 
-    size-read : fieldAt sizeAt countBytes (imageOf c) ≡ length (c .keys)
+    size-read : fieldAt sizeAt countBytes (imageOf c) ≡ length (keysIn c)
     unfolding imageOf image
-    size-read = header-size (c .order) (length (c .keys)) (length all-blocks) (top priorityOf (c .keys)) records (fits .size)
+    size-read = header-size (c .order) (length (keysIn c)) (length all-blocks) (top priorityOf (keysIn c)) records (fits .size)
 
     number-read : fieldAt blocksAt countBytes (imageOf c) ≡ length all-blocks
     unfolding imageOf image
-    number-read = header-blocks (c .order) (length (c .keys)) (length all-blocks) (top priorityOf (c .keys)) records (fits .number)
+    number-read = header-blocks (c .order) (length (keysIn c)) (length all-blocks) (top priorityOf (keysIn c)) records (fits .number)
 
-    root-read : fieldAt rootAt keyBytes (imageOf c) ≡ top priorityOf (c .keys)
+    root-read : fieldAt rootAt keyBytes (imageOf c) ≡ top priorityOf (keysIn c)
     unfolding imageOf image
-    root-read = header-root (c .order) (length (c .keys)) (length all-blocks) (top priorityOf (c .keys)) records (fits .root)
+    root-read = header-root (c .order) (length (keysIn c)) (length all-blocks) (top priorityOf (keysIn c)) records (fits .root)
 
   records-read : drop headerBytes (imageOf c) ≡ records
   unfolding imageOf image
-  records-read = header-dropped (c .order) (length (c .keys)) (length all-blocks) (top priorityOf (c .keys)) records
+  records-read = header-dropped (c .order) (length (keysIn c)) (length all-blocks) (top priorityOf (keysIn c)) records
 
   header-there : headerBytes ≤ length (imageOf c)
   unfolding imageOf image
   header-there =
-      let header = headerRecord (c .order) (length (c .keys)) (length all-blocks) (top priorityOf (c .keys)) in
-      omega (arith, length-append header records, header-length (c .order) (length (c .keys)) (length all-blocks) (top priorityOf (c .keys)))
+      let header = headerRecord (c .order) (length (keysIn c)) (length all-blocks) (top priorityOf (keysIn c)) in
+      omega (arith, length-append header records, header-length (c .order) (length (keysIn c)) (length all-blocks) (top priorityOf (keysIn c)))
 
   -- its records show its listing
   pub image-shows : shown (imageOf c) ≡ listingOf c
@@ -168,7 +185,7 @@ module _ (c : Contents) (valid : Valid mostSlots c) where
       let fits = header-fits c valid in
       ap₂ (λ (xs ys : List ℕ). xs ++ ys)
       (sym
-      (header-line-shown (imageOf c) (c .order) (length (c .keys)) (length all-blocks) (fill (c .order) (length (c .keys)) (length all-blocks)) (top priorityOf (c .keys)) (sym (order-read fits)) (sym (size-read fits))
+      (header-line-shown (imageOf c) (c .order) (length (keysIn c)) (length all-blocks) (fill (c .order) (length (keysIn c)) (length all-blocks)) (top priorityOf (keysIn c)) (sym (order-read fits)) (sym (size-read fits))
       (sym (number-read fits)) refl (sym (root-read fits))))
       (ap₂ shownBlocks (number-read fits) records-read ∙ blocks-shown c all-blocks listable)
 

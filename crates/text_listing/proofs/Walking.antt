@@ -1,16 +1,17 @@
 -- The lines of records one after the other: a node record's, then those of the records after it; a block's, then those of the blocks
 -- after it. Assumes nothing.
-use mathlib.Core.List.{List, [], _++_}
-use mathlib.Core.Path.{_≡_, sym, ap, ap₂, _∙_, subst}
-use Prim.Native.Nat.{ℕ, suc, _+_, _*_, _-_, _≤_, _<_}
+use mathlib.Core.List.{List, _++_}
+use mathlib.Core.Path.{_≡_, refl, sym, ap, _∙_, subst}
+use Prim.Native.Nat.{ℕ, suc, _+_, _-_, _≤_, _<_}
 use native.Mathlib.Omega.{arith}
-use lib.ListN.{length, take, drop, length-drop, length-take, take-append-drop}
-use lib.Seq.{drop-drop, take-all}
+use lib.ListN.{length, drop, length-drop}
+use lib.Seq.{drop-drop}
 use Rattle.treap.specs.Image.{orderBytes, countBytes, keyBytes}
 use Rattle.treap.specs.Blocks.{fill}
 use Rattle.image.specs.Layout.{blockBytes, nodeBytes, orderAt, sizeAt, blocksAt, rootAt, leaderAt, levelAt, heldAt, keyAt, rankAt, countAt}
-use Rattle.image.specs.Image.{fieldAt}
-use Rattle.image.proofs.Bytes.{field-before}
+use Rattle.image.specs.Image.{fieldAt, nodeSpan, nodesSpan}
+use Rattle.image_collect.proofs.Nodes.{span-least}
+use Rattle.image_collect.proofs.Passing.{field-from}
 use Rattle.text_lines.specs.Lines.{headerLine, blockLine, keyLine}
 use Rattle.text_listing.specs.Shown.{shownKey, shownKeys, heldIn, partBytes, shownBlockLine, shownBlock, shownBlocks, shownHeader, HasBlocks}
 
@@ -32,38 +33,58 @@ unfolding shownHeader
 header-line-shown image order keys blocks filled root e f g h k = rw (h, e, f, g, k)
 
 -- ---- bytes from an index on
-pub from-index : (at : ℕ) (bytes : List ℕ) → take (length bytes - at) (drop at bytes) ≡ drop at bytes
-from-index at bytes = take-all (length bytes - at) (drop at bytes) (omega (arith, length-drop at bytes))
-
 pub held-at : (at : ℕ) (bytes : List ℕ) → fieldAt (at + heldAt) countBytes bytes ≡ heldIn (drop at bytes)
-unfolding heldIn fieldAt
-held-at at bytes = rw (drop-drop heldAt at bytes)
+unfolding heldIn
+held-at at bytes = sym (field-from at heldAt countBytes bytes)
 
-module _ (records : List ℕ) (many : ℕ) where
-  -- The lines of the node records from the i-th on.
-  abbrev pub keysFrom : ℕ → List ℕ
-  keysFrom i = shownKeys (many - i) (drop (nodeBytes * i) records)
+-- ---- node records
+-- Of so many node records, `left` from byte `at` on are still to come.
+pub record Ahead (records : List ℕ) (many left at : ℕ) : Type 0 where
+  pub spans : at + nodesSpan left (drop at records) ≡ nodesSpan many records
 
-  -- the bytes of the i-th node record, as they are handed on
-  abbrev pub nodeFrom : ℕ → List ℕ
-  nodeFrom i = take (nodeBytes * i + nodeBytes - nodeBytes * i) (drop (nodeBytes * i) records)
+pub ahead-all : (records : List ℕ) (many : ℕ) → Ahead records many many 0
+ahead-all records many = record { spans = omega arith }
 
-  pub keys-next : (i : ℕ) → i < many → keysFrom i ≡ shownKey (nodeFrom i) ++ keysFrom (i + 1)
-  keys-next i h =
-      let left : many - i ≡ suc (many - (i + 1)) = omega arith in
-      let size : nodeBytes ≡ nodeBytes * i + nodeBytes - nodeBytes * i = omega arith in
-      let onward : nodeBytes * i + nodeBytes ≡ nodeBytes * (i + 1) = omega arith in
-      ap (λ (n : ℕ). shownKeys n (drop (nodeBytes * i) records)) left
-      ∙ ap₂ (λ (n : ℕ) (rest : List ℕ). shownKey (take n (drop (nodeBytes * i) records)) ++ shownKeys (many - (i + 1)) rest) size
-      (drop-drop nodeBytes (nodeBytes * i) records ∙ ap (λ (n : ℕ). drop n records) onward)
+pub ahead-none : {records : List ℕ} {many left at : ℕ} → Ahead records many left at → left ≡ 0 → at ≡ nodesSpan many records
+ahead-none {records} {many} {left} {at} state e =
+    sym (omega (arith, ap (λ (n : ℕ). nodesSpan n (drop at records)) e)) ∙ state .spans
 
-  pub keys-none : (i : ℕ) → many ≤ i → keysFrom i ≡ []
-  keys-none i h = let none : many - i ≡ 0 = omega arith in ap (λ (n : ℕ). shownKeys n (drop (nodeBytes * i) records)) none
+module _ {records : List ℕ} {many left at : ℕ} (fits : nodesSpan many records ≤ length records) (state : Ahead records many left at) where
+  -- where they begin, and where the next of them ends
+  pub ahead-within : at ≤ length records
+  ahead-within = omega (arith, state .spans)
+
+  module _ (turn : 0 < left) where
+    -- the bytes from the next record on
+    abbrev here : List ℕ
+    here = drop at records
+
+    more : left ≡ suc (left - 1)
+    more = omega arith
+
+    pub ahead-next : (end : ℕ) → end ≡ at + nodeSpan here → Ahead records many (left - 1) end
+    ahead-next end e =
+        let after : drop (nodeSpan here) here ≡ drop end records = drop-drop (nodeSpan here) at records ∙ ap (λ (n : ℕ). drop n records) (sym e) in
+        let first : nodesSpan left here ≡ nodeSpan here + nodesSpan (left - 1) (drop end records) =
+        ap (λ (n : ℕ). nodesSpan n here) more ∙ ap (λ (rest : List ℕ). nodeSpan here + nodesSpan (left - 1) rest) after
+        in
+        record { spans = omega (arith, e, first, state .spans) }
+
+    pub ahead-inside : at + nodeSpan here ≤ length records
+    ahead-inside = omega (arith, ahead-next (at + nodeSpan here) refl .spans)
+
+    pub ahead-node : nodeBytes ≤ length here
+    ahead-node = omega (arith, ahead-inside, span-least here, length-drop at records)
+
+    pub keys-next : (end : ℕ) → end ≡ at + nodeSpan here → shownKeys left here ≡ shownKey here ++ shownKeys (left - 1) (drop end records)
+    keys-next end e =
+        ap (λ (n : ℕ). shownKeys n here) more
+        ∙ ap (λ (rest : List ℕ). shownKey here ++ shownKeys (left - 1) rest) (drop-drop (nodeSpan here) at records ∙ ap (λ (n : ℕ). drop n records) (sym e))
 
 -- ---- a block's records
-pub part-nodes : (part : List ℕ) → length part ≡ partBytes part → length part ≡ blockBytes + nodeBytes * heldIn part
+pub part-nodes : (part : List ℕ) → partBytes part ≡ blockBytes + nodesSpan (heldIn part) (drop blockBytes part)
 unfolding partBytes
-part-nodes part e = e
+part-nodes part = refl
 
 -- Of the bytes so many blocks' records from index `at` on are still to come.
 pub record Coming (bytes : List ℕ) (left at : ℕ) : Type 0 where
@@ -78,10 +99,6 @@ module _ (bytes : List ℕ) (at : ℕ) where
   abbrev pub endFrom : ℕ
   endFrom = at + partBytes (drop at bytes)
 
-  -- these bytes, as they are handed on
-  abbrev pub partFrom : List ℕ
-  partFrom = take (endFrom - at) (drop at bytes)
-
   -- The lines of so many blocks from there on.
   abbrev pub blocksFrom : ℕ → List ℕ
   blocksFrom left = shownBlocks left (drop at bytes)
@@ -90,8 +107,12 @@ module _ {bytes : List ℕ} {left at : ℕ} (state : Coming bytes left at) (turn
   there : HasBlocks (suc (left - 1)) (drop at bytes)
   there = let more : left ≡ suc (left - 1) = omega arith in subst (λ (n : ℕ). HasBlocks n (drop at bytes)) more (state .has)
 
+  -- they lie among the bytes
+  pub part-inside : partBytes (drop at bytes) ≤ length (drop at bytes)
+  part-inside = there .0
+
   pub coming-end : endFrom bytes at ≤ length bytes
-  coming-end = let r = state .reach in let h = there .0 in omega (arith, length-drop at bytes)
+  coming-end = let r = state .reach in let h = part-inside in omega (arith, length-drop at bytes)
 
   pub coming-next : Coming bytes (left - 1) (endFrom bytes at)
   coming-next =
@@ -100,22 +121,8 @@ module _ {bytes : List ℕ} {left at : ℕ} (state : Coming bytes left at) (turn
         has = subst (HasBlocks (left - 1)) (drop-drop (partBytes (drop at bytes)) at bytes) (there .1);
       }
 
-  pub blocks-next : blocksFrom bytes at left ≡ shownBlock (partFrom bytes at) ++ blocksFrom bytes (endFrom bytes at) (left - 1)
+  pub blocks-next : blocksFrom bytes at left ≡ shownBlock (drop at bytes) ++ blocksFrom bytes (endFrom bytes at) (left - 1)
   blocks-next =
       let more : left ≡ suc (left - 1) = omega arith in
-      let size : partBytes (drop at bytes) ≡ endFrom bytes at - at = omega arith in
       ap (λ (n : ℕ). shownBlocks n (drop at bytes)) more
-      ∙ ap₂ (λ (n : ℕ) (rest : List ℕ). shownBlock (take n (drop at bytes)) ++ shownBlocks (left - 1) rest) size
-      (drop-drop (partBytes (drop at bytes)) at bytes)
-
-  -- these bytes are the block's record and as many node records as it says
-  pub part-long : length (partFrom bytes at) ≡ partBytes (drop at bytes)
-  part-long = let h = there .0 in omega (arith, length-take (endFrom bytes at - at) (drop at bytes))
-
-  pub part-size : length (partFrom bytes at) ≡ partBytes (partFrom bytes at)
-  unfolding partBytes heldIn
-  part-size =
-      let n = endFrom bytes at - at in
-      part-long
-      ∙ ap (λ (l : List ℕ). blockBytes + nodeBytes * fieldAt heldAt countBytes l) (sym (take-append-drop n (drop at bytes)))
-      ∙ ap (λ (held : ℕ). blockBytes + nodeBytes * held) (field-before (partFrom bytes at) (drop n (drop at bytes)) heldAt countBytes (omega (arith, part-long)))
+      ∙ ap (λ (rest : List ℕ). shownBlock (drop at bytes) ++ shownBlocks (left - 1) rest) (drop-drop (partBytes (drop at bytes)) at bytes)

@@ -7,7 +7,7 @@ use Rattle.priority.specs.Priority.{priorityOf}
 use Rattle.treap.specs.Treap.{top}
 use Rattle.treap.specs.Levels.{rank, count}
 use Rattle.treap.specs.Blocks.{Block, blocks, fill}
-use Rattle.table.specs.Contents.{Contents}
+use Rattle.table.specs.Contents.{Contents, keysIn}
 use Rattle.text_lines.specs.Lines.{headerLine, blockLine, keyLine}
 
 module _ (α : ℕ) (p : ℕ → ℕ) (ks : List ℕ) where
@@ -27,4 +27,4 @@ module _ (α : ℕ) (p : ℕ → ℕ) (ks : List ℕ) where
 
 -- The listing of an order and a set.
 unfoldable pub listingOf : Contents → List ℕ
-listingOf c = listing (c .order) priorityOf (c .keys)
+listingOf c = listing (c .order) priorityOf (keysIn c)

@@ -1,22 +1,22 @@
 -- The lines that the records of an image show, read from its bytes. Assumes nothing.
 use mathlib.Core.List.{List, [], _++_}
-use Prim.Native.Nat.{ℕ, zero, suc, _+_, _*_, _≤_, _<_}
-use lib.ListN.{length, take, drop}
+use Prim.Native.Nat.{ℕ, zero, suc, _+_, _≤_, _<_}
+use lib.ListN.{length, drop}
 use Rattle.treap.specs.Image.{orderBytes, countBytes, keyBytes}
 use Rattle.treap.specs.Blocks.{fill}
 use Rattle.table.specs.Layout.{mostSlots}
-use Rattle.image.specs.Layout.{imageBytes, headerBytes, blockBytes, nodeBytes, orderAt, sizeAt, blocksAt, rootAt, leaderAt, levelAt, heldAt, keyAt, rankAt, countAt}
-use Rattle.image.specs.Image.{fieldAt}
+use Rattle.image.specs.Layout.{imageBytes, headerBytes, blockBytes, orderAt, sizeAt, blocksAt, rootAt, leaderAt, levelAt, heldAt, keyAt, rankAt, countAt}
+use Rattle.image.specs.Image.{fieldAt, nodeSpan, nodesSpan}
 use Rattle.text_lines.specs.Lines.{headerLine, blockLine, keyLine}
 
 -- The line of the node record at the start of the bytes.
 unfoldable pub shownKey : List ℕ → List ℕ
 shownKey bytes = keyLine (fieldAt keyAt keyBytes bytes) (fieldAt rankAt countBytes bytes) (fieldAt countAt countBytes bytes)
 
--- The lines of so many node records.
+-- The lines of so many node records: a measured key's is the same as an unmeasured one's.
 abbrev pub shownKeys : ℕ → List ℕ → List ℕ
 shownKeys zero bytes = []
-shownKeys (suc many) bytes = shownKey (take nodeBytes bytes) ++ shownKeys many (drop nodeBytes bytes)
+shownKeys (suc many) bytes = shownKey bytes ++ shownKeys many (drop (nodeSpan bytes) bytes)
 
 -- The number of keys in the block whose record is at the start of the bytes.
 unfoldable pub heldIn : List ℕ → ℕ
@@ -24,20 +24,20 @@ heldIn bytes = fieldAt heldAt countBytes bytes
 
 -- The bytes of that record and of the node records after it.
 unfoldable pub partBytes : List ℕ → ℕ
-partBytes bytes = blockBytes + nodeBytes * heldIn bytes
+partBytes bytes = blockBytes + nodesSpan (heldIn bytes) (drop blockBytes bytes)
 
 -- The line of that record.
 unfoldable pub shownBlockLine : List ℕ → List ℕ
 shownBlockLine bytes = blockLine (fieldAt leaderAt keyBytes bytes) (fieldAt levelAt countBytes bytes) (heldIn bytes)
 
--- The lines of a block and of its keys, from the bytes of its records.
+-- The lines of a block and of its keys.
 unfoldable pub shownBlock : List ℕ → List ℕ
-shownBlock part = shownBlockLine part ++ shownKeys (heldIn part) (drop blockBytes part)
+shownBlock bytes = shownBlockLine bytes ++ shownKeys (heldIn bytes) (drop blockBytes bytes)
 
 -- The lines of so many blocks.
 abbrev pub shownBlocks : ℕ → List ℕ → List ℕ
 shownBlocks zero bytes = []
-shownBlocks (suc many) bytes = shownBlock (take (partBytes bytes) bytes) ++ shownBlocks many (drop (partBytes bytes) bytes)
+shownBlocks (suc many) bytes = shownBlock bytes ++ shownBlocks many (drop (partBytes bytes) bytes)
 
 -- The line of the header.
 unfoldable pub shownHeader : List ℕ → List ℕ
@@ -67,7 +67,7 @@ pub record HasRecords (bytes : List ℕ) : Type 0 where
 
 -- The bytes of the longest image.
 abbrev pub mostBytes : ℕ
-mostBytes = imageBytes mostSlots mostSlots
+mostBytes = imageBytes mostSlots mostSlots mostSlots
 
 -- No line is longer than so many times the record that it shows.
 abbrev pub mostGrowth : ℕ

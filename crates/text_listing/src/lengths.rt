@@ -3,6 +3,7 @@ ghost use mathlib.Core.Path.{_≡_};
 ghost use Prim.Native.Nat.{_*_, _≤_};
 ghost use lib.ListN.{length};
 ghost use Rattle.image.specs.Layout.{headerBytes, nodeBytes};
+ghost use Rattle.image.specs.Image.{nodesSpan};
 ghost use Rattle.text_listing.specs.Shown.{shownKey, shownKeys, partBytes, shownBlock, shownBlocks, HasBlocks, shownHeader, shown, HasRecords, mostBytes, mostGrowth};
 use crate::block_end;
 use crate::fill_of;
@@ -16,7 +17,6 @@ use image::KEY_AT;
 use image::KEY_BYTES;
 use image::LEADER_AT;
 use image::LEVEL_AT;
-use image::NODE_BYTES;
 use image::ORDER_AT;
 use image::ORDER_BYTES;
 use image::RANK_AT;
@@ -36,23 +36,24 @@ fn key(node: &[u8]) -> usize
 
 // The length of the lines of so many node records.
 fn keys(records: &[u8], many: usize) -> usize
-    requires { ⌜ (nodeBytes * many ≤ length (now records)) × (length (now records) ≤ mostBytes) ⌝ }
-    ensures { λ r. ⌜ (r ≡ length (shownKeys many (now (records .entry)))) × (r ≤ mostGrowth * (nodeBytes * many)) ⌝ }
+    requires { ⌜ (nodesSpan many (now records) ≤ length (now records)) × (length (now records) ≤ mostBytes) ⌝ }
+    ensures { λ r. ⌜ (r ≡ length (shownKeys many (now (records .entry)))) × (r ≤ mostGrowth * nodesSpan many (now (records .entry))) ⌝ }
 {
+    let mut left = many;
+    let mut at = 0;
     let mut total = 0;
-    for i in 0..many {
-        let start = NODE_BYTES * i;
-        let end = start + NODE_BYTES;
-        total += key(&records[start..end]);
+    while 0 < left {
+        total += key(&records[at..]);
+        at += image_collect::node_span(&records[at..]);
+        left -= 1;
     }
     total
 }
 
-// The length of the lines of a block and of its keys, from the part of the image that is the block's record and the node records
-// after it.
+// The length of the lines of a block and of its keys, from the part of the image that begins with the block's record.
 fn block(part: &[u8]) -> usize
-    requires { ⌜ (length (now part) ≡ partBytes (now part)) × (length (now part) ≤ mostBytes) ⌝ }
-    ensures { λ r. ⌜ (r ≡ length (shownBlock (now (part .entry)))) × (r ≤ mostGrowth * length (now (part .entry))) ⌝ }
+    requires { ⌜ (partBytes (now part) ≤ length (now part)) × (length (now part) ≤ mostBytes) ⌝ }
+    ensures { λ r. ⌜ (r ≡ length (shownBlock (now (part .entry)))) × (r ≤ mostGrowth * partBytes (now (part .entry))) ⌝ }
 {
     let leader = image_fields::get(part, LEADER_AT, KEY_BYTES);
     let level = image_fields::get(part, LEVEL_AT, COUNT_BYTES);
@@ -72,7 +73,7 @@ fn blocks(records: &[u8], many: u64) -> usize
     let mut total = 0;
     while 0 < left {
         let end = block_end(records, start);
-        total += block(&records[start..end]);
+        total += block(&records[start..]);
         start = end;
         left -= 1;
     }

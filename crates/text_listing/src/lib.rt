@@ -7,7 +7,7 @@ ghost use Prim.Native.Nat.{_+_, _*_, _≤_, _<_};
 ghost use lib.ListN.{length, drop};
 ghost use Rattle.treap.specs.Blocks.{fill};
 ghost use Rattle.lists.specs.Lists.{overwrite};
-ghost use Rattle.image.specs.Image.{isImage, readImage};
+ghost use Rattle.image.specs.Image.{nodesSpan, isImage, readImage};
 ghost use Rattle.image.specs.Layout.{nodeBytes};
 ghost use Rattle.text.specs.Written.{Written};
 ghost use Rattle.text_listing.specs.Shown.{shownKey, shownKeys, partBytes, shownBlock, shownBlocks, HasBlocks, shownHeader, shown, HasRecords, mostGrowth};
@@ -22,7 +22,6 @@ use image::KEY_AT;
 use image::KEY_BYTES;
 use image::LEADER_AT;
 use image::LEVEL_AT;
-use image::NODE_BYTES;
 use image::ORDER_AT;
 use image::ORDER_BYTES;
 use image::RANK_AT;
@@ -54,22 +53,24 @@ fn put_key(node: &[u8], output: &mut [u8], at: usize) -> usize
 
 // Write the lines of so many node records.
 fn put_keys(records: &[u8], many: usize, output: &mut [u8], at: usize) -> usize
-    requires { ⌜ nodeBytes * many ≤ length (now records) ⌝ }
+    requires { ⌜ nodesSpan many (now records) ≤ length (now records) ⌝ }
     requires { ⌜ at + length (shownKeys many (now records)) ≤ length (now output) ⌝ }
     ensures { λ r. ⌜ Written (now (output .entry)) at (shownKeys many (now (records .entry))) (now (output .exit)) r ⌝ }
 {
+    let mut left = many;
+    let mut start = 0;
     let mut to = at;
-    for i in 0..many {
-        let start = NODE_BYTES * i;
-        let end = start + NODE_BYTES;
-        to = put_key(&records[start..end], output, to);
+    while 0 < left {
+        to = put_key(&records[start..], output, to);
+        start += image_collect::node_span(&records[start..]);
+        left -= 1;
     }
     to
 }
 
-// Write the lines of a block and of its keys, from the part of the image that is the block's record and the node records after it.
+// Write the lines of a block and of its keys, from the part of the image that begins with the block's record.
 fn put_block(part: &[u8], output: &mut [u8], at: usize) -> usize
-    requires { ⌜ length (now part) ≡ partBytes (now part) ⌝ }
+    requires { ⌜ partBytes (now part) ≤ length (now part) ⌝ }
     requires { ⌜ at + length (shownBlock (now part)) ≤ length (now output) ⌝ }
     ensures { λ r. ⌜ Written (now (output .entry)) at (shownBlock (now (part .entry))) (now (output .exit)) r ⌝ }
 {
@@ -95,13 +96,28 @@ fn put_header(image: &[u8], output: &mut [u8]) -> usize
     text_lines::put_header_line(output, 0, order, keys, blocks, fill, root)
 }
 
+// How many bytes so many node records have.
+fn nodes_span(records: &[u8], many: usize) -> usize
+    requires { ⌜ nodesSpan many (now records) ≤ length (now records) ⌝ }
+    ensures { λ r. ⌜ r ≡ nodesSpan many (now (records .entry)) ⌝ }
+{
+    let mut left = many;
+    let mut at = 0;
+    while 0 < left {
+        at += image_collect::node_span(&records[at..]);
+        left -= 1;
+    }
+    at
+}
+
 // Where the node records end of the block whose record begins at byte `at`.
 fn block_end(records: &[u8], at: usize) -> usize
     requires { ⌜ at + partBytes (drop at (now records)) ≤ length (now records) ⌝ }
     ensures { λ r. ⌜ r ≡ at + partBytes (drop at (now (records .entry))) ⌝ }
 {
     let held = image_fields::get(records, at + HELD_AT, COUNT_BYTES) as usize;
-    at + BLOCK_BYTES + NODE_BYTES * held
+    let nodes = at + BLOCK_BYTES;
+    nodes + nodes_span(&records[nodes..], held)
 }
 
 // Write the lines of so many blocks.
@@ -115,7 +131,7 @@ fn put_blocks(records: &[u8], many: u64, output: &mut [u8], at: usize) -> usize
     let mut to = at;
     while 0 < left {
         let end = block_end(records, start);
-        to = put_block(&records[start..end], output, to);
+        to = put_block(&records[start..], output, to);
         start = end;
         left -= 1;
     }

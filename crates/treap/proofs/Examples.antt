@@ -5,9 +5,9 @@ use Rattle.treap.specs.Treap.{outranks, outranksRest, top, treap, leftLi
 use Rattle.treap.specs.Levels.{nextLevel, rank, count, leader}
 use Rattle.treap.specs.Blocks.{rootRank, rootBlock, block, blocksOfLevel, blocks, holding, isRootBlock, parents, meets, blocksMet, blocksMetByAll, fill}
 use Rattle.treap.specs.Slots.{probes, firstEmpty, slotsOf}
-use Rattle.treap.specs.Image.{headerRecord, blockRecord, nodeRecord, nodeOf, blockPart, image}
+use Rattle.treap.specs.Image.{headerRecord, blockRecord, nodeFields, nodeRecord, nodeOf, blockPart, image}
 use Rattle.treap.specs.Examples.{Example, examples, outcomeOf}
 
 pub examples-hold : map (λ (e : Example). outcomeOf (e .given)) examples ≡ map (λ (e : Example). e .outcome) examples
-unfolding outranks outranksRest top treap nextLevel rank count leader rootRank rootBlock block blocksOfLevel blocks holding isRootBlock parents meets blocksMet blocksMetByAll fill probes firstEmpty slotsOf leftLink rightLink headerRecord blockRecord nodeRecord nodeOf blockPart image flatMap
+unfolding outranks outranksRest top treap nextLevel rank count leader rootRank rootBlock block blocksOfLevel blocks holding isRootBlock parents meets blocksMet blocksMetByAll fill probes firstEmpty slotsOf leftLink rightLink headerRecord blockRecord nodeFields nodeRecord nodeOf blockPart image flatMap
 examples-hold = refl

@@ -6,6 +6,7 @@ use Prim.Native.Nat.{ℕ, suc}
 use lib.Dec.{eqb}
 use lib.ListN.{length, take}
 use Rattle.lists.specs.Lists.{keep, member}
+use Rattle.measure.specs.Measure.{unmeasured}
 use Rattle.treap.specs.Levels.{rank, count, leader}
 use Rattle.treap.specs.Blocks.{Block, blocks, parents, fill, blocksMet, blocksMetByAll}
 use Rattle.treap.specs.Slots.{slotsOf}
@@ -81,7 +82,7 @@ outcomeOf g =
       metByAll = blocksMetByAll 3 p ks (g .sought);
       before = slotsOf p (λ k. g .home) (g .slots) ks;
       after = slotsAfter p g;
-      image = take (g .bytes) (image 3 p ks);
+      image = take (g .bytes) (image 3 p (λ k. unmeasured) ks);
     }
 
 -- Keys with their written order, where neither lookups nor slots are asked for, and what is then made of them.

@@ -1,22 +1,46 @@
 //! Two workshops keep the same fingerprints, reached in different ways, and compare images.
 
-use btreap::{Found, Place, Question, Refusal};
+use btreap::{Found, Measure, Place, Question, Refusal};
 
 const SLOTS: usize = 64;
 
-/// The first workshop inserts keys one by one, one too many, and deletes that one.
+/// The first workshop inserts keys one by one, one too many, and deletes that one. Lasts 512 and 41 are measured.
 fn first_workshop(table: &mut [u64]) -> Result<(), Refusal> {
     btreap::set_up(table, 3)?;
-    for key in [512, 7, 99, 3000, 41, 8] {
+    btreap::insert_measured(table, 512, Measure::new(26_500, -120))?;
+    for key in [7, 99, 3000, 8] {
         btreap::insert(table, key)?;
     }
+    btreap::insert_measured(table, 41, Measure::new(31_000, 45))?;
     btreap::delete(table, 99)?;
     Ok(())
 }
 
-/// The second builds its table from a rising list.
+/// The second builds its table from a rising list of keys, and their lengths and corrections.
 fn second_workshop(table: &mut [u64]) -> Result<(), Refusal> {
-    btreap::build(table, 3, &[7, 8, 41, 512, 3000])
+    btreap::build_measured(table, 3, &[7, 8, 41, 512, 3000], &[0, 0, 31_000, 26_500, 0], &[0, 0, 45, -120, 0])
+}
+
+/// What a lookup says of a held key.
+fn look_up(table: &[u64], key: u64) -> Result<(), Refusal> {
+    if let Found::Held { rank, count, leader, blocks, measure } = btreap::look_up(table, key)? {
+        print!("{key}: held 1, rank {rank}, count {count}, leader {leader}, blocks {blocks}");
+        match measure {
+            Measure::NONE => println!(", not measured"),
+            Measure { length, correction } => println!(", length {length}, correction {correction}"),
+        }
+    }
+    Ok(())
+}
+
+/// A measure outside the rules is turned down, and so is another one for a key that is held.
+fn wrong_measures(table: &mut [u64]) {
+    if let Err(refusal) = btreap::insert_measured(table, 100, Measure::new(9_999, 0)) {
+        println!("length 9999: refused, {}", refusal.number());
+    }
+    if let Err(refusal) = btreap::insert_measured(table, 512, Measure::new(26_501, -120)) {
+        println!("another measure: refused, {}", refusal.number());
+    }
 }
 
 /// Every key of a table, step by step.
@@ -84,10 +108,10 @@ fn main() -> Result<(), Refusal> {
     println!("image: {} bytes", sent.len());
     println!("images agree: {}", yes_or_no(sent == kept));
 
-    if let Found::Held { rank, count, leader, blocks } = btreap::look_up(&first, 512)? {
-        println!("512: held 1, rank {rank}, count {count}, leader {leader}, blocks {blocks}");
-    }
+    look_up(&first, 512)?;
+    look_up(&first, 3000)?;
     look_up_together(&first)?;
+    wrong_measures(&mut first);
 
     btreap::read(&mut third, &sent)?;
     println!("read back: {}", yes_or_no(third == first));

@@ -6,11 +6,12 @@ use super::home::Homes;
 use super::judged::Judged;
 use super::node::Node;
 use super::record::*;
+use super::stored::Stored;
 use crate::priority::{priority, Entry};
 
 /// Inserts a key that is absent, with room for it. Gives its rank.
-pub fn insert(table: &mut [u64], judged: &mut Judged, key: u64) -> u64 {
-    let new = judged.add(key);
+pub fn insert(table: &mut [u64], judged: &mut Judged, key: u64, measure: Stored) -> u64 {
+    let new = judged.add(key, measure);
     insert_node(table, judged, new)
 }
 
@@ -228,19 +229,19 @@ impl<'a> Edit<'a> {
     /// way and goes on in its stead.
     fn place(&mut self, new: u16) {
         let (mut number, mut node) = (new, *self.node(new));
-        let mut record = [node.key, 0, 0, 0, 0, 0];
+        let mut record = node.record();
         let mut slot = self.homes.home(node.priority);
         while self.slots[slot][KEY] != 0 {
             let other = self.judged.find(self.slots[slot][KEY]).expect("was judged");
             if outranks(node.entry(), self.node(other).entry()) {
                 std::mem::swap(&mut self.slots[slot], &mut record);
-                self.judged.nodes[number as usize].slot = slot as u32;
+                self.judged.nodes[number as usize].slot = slot as u16;
                 (number, node) = (other, *self.node(other));
             }
             slot = self.next(slot);
         }
         self.slots[slot] = record;
-        self.judged.nodes[number as usize].slot = slot as u32;
+        self.judged.nodes[number as usize].slot = slot as u16;
     }
 
     fn next(&self, slot: usize) -> usize {
@@ -262,6 +263,6 @@ impl<'a> Edit<'a> {
             }
             (at, from_hole) = (self.next(at), from_hole + 1);
         }
-        self.slots[hole] = [0; 6];
+        self.slots[hole] = EMPTY;
     }
 }

@@ -1,7 +1,7 @@
 //! Whether a table is sound, without making it anew: the words of a sound table
-//! prove themselves. Every key stands where placing would put it, and from the
-//! root down every node has the links, leader, rank and count that follow from
-//! its neighbours'.
+//! prove themselves. Every key stands where placing would put it with a measure
+//! within the rules, and from the root down every node has the links, leader, rank
+//! and count that follow from its neighbours'.
 
 use super::finder::Finder;
 use super::home::Homes;
@@ -9,6 +9,7 @@ use super::judged::{Judged, Visit};
 use super::node::Node;
 use super::placed::in_place;
 use super::record::*;
+use super::stored::are_right;
 use crate::is_order;
 
 /// Judges a table of right length; none when it is not sound.
@@ -23,8 +24,8 @@ pub fn judge(table: &[u64]) -> Option<Judged> {
     right.then_some(judged)
 }
 
-/// Reads all slots: the nodes, if the empty slots are all zeros and the keys as
-/// many as the header says.
+/// Reads all slots: the nodes, if the empty slots are all zeros, the measures right
+/// and the keys as many as the header says.
 fn collect(slots: &[Record], number: u64) -> Option<Judged> {
     let occupied = occupied(slots)?;
     if occupied.len() as u64 != number {
@@ -52,19 +53,21 @@ fn collect(slots: &[Record], number: u64) -> Option<Judged> {
     })
 }
 
-/// The slots that hold a key, if the others are all zeros.
+/// The slots that hold a key, if all of these have a right measure and the others
+/// are all zeros.
 fn occupied(slots: &[Record]) -> Option<Vec<u16>> {
     let mut occupied = vec![0; slots.len()];
-    let (mut number, mut stray) = (0, 0);
+    let (mut number, mut is_right) = (0, true);
     for (slot, record) in slots.iter().enumerate() {
         occupied[number] = slot as u16;
         let is_held = record[KEY] != 0;
         number += is_held as usize;
         let rest = record[1..].iter().fold(0, |all, word| all | word);
-        stray |= if is_held { 0 } else { rest };
+        let measured = are_right(record[LENGTH], record[CORRECTION]);
+        is_right &= if is_held { measured } else { rest == 0 };
     }
     occupied.truncate(number);
-    (stray == 0).then_some(occupied)
+    is_right.then_some(occupied)
 }
 
 impl Judged {

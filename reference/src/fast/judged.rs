@@ -4,6 +4,7 @@ use super::finder::Finder;
 use super::image::Records;
 use super::node::Node;
 use super::record::*;
+use super::stored::Stored;
 use crate::calls::LookUpReply;
 
 /// A node to be looked at: its number, and the interval that its key must be
@@ -49,9 +50,9 @@ impl Judged {
     }
 
     /// Numbers a new key, which is in no slot.
-    pub fn add(&mut self, key: u64) -> u16 {
+    pub fn add(&mut self, key: u64, measure: Stored) -> u16 {
         let number = self.nodes.len() as u16;
-        self.nodes.push(Node::unplaced(key));
+        self.nodes.push(Node::unplaced(key, measure));
         self.children.push([NONE; 2]);
         number
     }
@@ -74,12 +75,17 @@ impl Judged {
             reply.blocks += (this_level != last_level) as u64;
             last_level = this_level;
             if key == here[KEY] {
-                let [_, _, _, leader, rank, count] = here;
+                let [_, _, _, leader, rank, count, length, correction] = here;
+                let stored = Stored {
+                    length: length as u16,
+                    correction: correction as u16,
+                };
                 return LookUpReply {
                     held: true,
                     rank,
                     count,
                     leader,
+                    measure: stored.measure(),
                     ..reply
                 };
             }

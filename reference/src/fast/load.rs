@@ -8,11 +8,12 @@ use super::image::Records;
 use super::judged::Judged;
 use super::node::Node;
 use super::record::*;
+use super::stored::Stored;
 use crate::calls::LookUpReply;
 use crate::load::{Operation, GREATEST_KEY};
 
 /// The slot of a key that is absent.
-const NOWHERE: u32 = u32::MAX;
+const NOWHERE: u16 = u16::MAX;
 
 /// Does the operations on a blank table. Their replies are dropped.
 pub fn run(table: &mut [u64], operations: impl Iterator<Item = Operation>) {
@@ -30,12 +31,13 @@ pub fn run(table: &mut [u64], operations: impl Iterator<Item = Operation>) {
 }
 
 /// What is known of a blank table. Every key that a load can name has a node from
-/// the beginning, whose number is the key, so that none is ever added.
+/// the beginning, whose number is the key, so that none is ever added. None of them
+/// is measured.
 fn blank() -> Judged {
     let keys = 1..=GREATEST_KEY;
     let absent = |key| Node {
         slot: NOWHERE,
-        ..Node::unplaced(key)
+        ..Node::unplaced(key, Stored::NONE)
     };
     let mut nodes = vec![Node::default()];
     nodes.extend(keys.clone().map(absent));
@@ -65,7 +67,7 @@ impl Records for Load<'_> {
 }
 
 impl Load<'_> {
-    fn slot(&self, number: u16) -> u32 {
+    fn slot(&self, number: u16) -> u16 {
         self.known.nodes[number as usize].slot
     }
 
@@ -98,7 +100,7 @@ impl Load<'_> {
         let mut slot = from;
         while slots[slot][KEY] != 0 {
             let number = self.known.find(slots[slot][KEY]).expect("has a number");
-            self.known.nodes[number as usize].slot = slot as u32;
+            self.known.nodes[number as usize].slot = slot as u16;
             slot = (slot + 1) % slots.len();
         }
     }

@@ -18,17 +18,22 @@ mod listing;
 mod load;
 mod node;
 mod placed;
+mod reader;
 mod record;
+mod stored;
 
 use crate::batch::{batched, BatchReply, Question};
 use crate::calls::*;
 use crate::is_order;
 use crate::load::operations;
+use crate::measure::Measure;
 use fresh::Nodes;
-use image::{candidate, rises, Layout};
+use image::Layout;
 use judge::judge;
 use judged::Judged;
+use reader::{candidate, rises, Candidate};
 use record::slots_of_length;
+use stored::Stored;
 
 /// M, or refusal 1.
 fn length_of(table: &[u64]) -> Outcome<usize> {
@@ -53,18 +58,43 @@ fn try_set_up(table: &mut [u64], order: u64) -> Outcome<()> {
     Ok(())
 }
 
-/// "build 1, 2, 5, 10"
-pub fn build(table: &mut [u64], order: u64, list: &[u64]) -> PlainReply {
-    plain(try_build(table, order, list))
+/// "build 1, 2, 5, 10", and 12 "checked straight after 5"
+pub fn build(
+    table: &mut [u64],
+    order: u64,
+    keys: &[u64],
+    lengths: &[u64],
+    corrections: &[i32],
+) -> PlainReply {
+    plain(try_build(table, order, keys, (lengths, corrections)))
 }
 
-fn try_build(table: &mut [u64], order: u64, list: &[u64]) -> Outcome<()> {
+fn try_build(
+    table: &mut [u64],
+    order: u64,
+    keys: &[u64],
+    (lengths, corrections): (&[u64], &[i32]),
+) -> Outcome<()> {
     let slots = length_of(table)?;
     refuse_if(!is_order(order), ORDER)?;
-    refuse_if(!rises(list) || list.first() == Some(&0), NOT_RISING)?;
-    refuse_if(list.len() > slots, TOO_MANY)?;
-    Nodes::new(order, [&[0], list].concat()).write_table(table, order);
+    refuse_if(!rises(keys) || keys.first() == Some(&0), NOT_RISING)?;
+    let number = keys.len();
+    refuse_if([lengths.len(), corrections.len()] != [number; 2], MEASURE)?;
+    let measures = measures(lengths, corrections).ok_or(MEASURE)?;
+    refuse_if(number > slots, TOO_MANY)?;
+    Nodes::new(order, [&[0], keys].concat(), measures).write_table(table, order);
     Ok(())
+}
+
+/// The measures of as many lengths and corrections, after one for no node; none
+/// where one is outside the rules.
+fn measures(lengths: &[u64], corrections: &[i32]) -> Option<Vec<Stored>> {
+    let mut measures = vec![Stored::NONE; lengths.len() + 1];
+    let pairs = lengths.iter().zip(corrections);
+    for (place, (&length, &correction)) in measures[1..].iter_mut().zip(pairs) {
+        *place = Stored::new(Measure { length, correction })?;
+    }
+    Some(measures)
 }
 
 /// "the checks are 1, 2"
@@ -78,18 +108,19 @@ fn try_load(table: &mut [u64], order: u64, seed: u64, count: u16) -> Outcome<()>
     Ok(())
 }
 
-/// "insert 1, 3, 7, 8, 10"
-pub fn insert(table: &mut [u64], key: u64) -> RankReply {
-    ranked(try_insert(table, key))
+/// "insert 1, 3, 7, 8, 10", and 12 "on insert after 3"
+pub fn insert(table: &mut [u64], key: u64, measure: Measure) -> RankReply {
+    ranked(try_insert(table, key, measure))
 }
 
-fn try_insert(table: &mut [u64], key: u64) -> Outcome<u64> {
+fn try_insert(table: &mut [u64], key: u64, measure: Measure) -> Outcome<u64> {
     let slots = length_of(table)?;
     refuse_if(key == 0, KEY_ZERO)?;
+    let measure = Stored::new(measure).ok_or(MEASURE)?;
     let mut judged = sound(table)?;
     refuse_if(judged.find(key).is_some(), HELD)?;
     refuse_if(judged.number() == slots, TOO_MANY)?;
-    Ok(edit::insert(table, &mut judged, key))
+    Ok(edit::insert(table, &mut judged, key, measure))
 }
 
 /// "delete 1, 3, 7, 9"
@@ -206,6 +237,16 @@ fn try_write_image(table: &[u64], output: &mut [u8]) -> Outcome<usize> {
     Ok(length)
 }
 
+/// The order that the bytes have if they are an image, and its nodes.
+fn nodes_of(bytes: &[u8]) -> Option<(u64, Nodes)> {
+    let Candidate {
+        order,
+        keys,
+        measures,
+    } = candidate(bytes)?;
+    Some((order, Nodes::new(order, keys, measures)))
+}
+
 /// "reader 1, 6, 10"
 pub fn read_image(table: &mut [u64], bytes: &[u8]) -> PlainReply {
     plain(try_read_image(table, bytes))
@@ -213,8 +254,7 @@ pub fn read_image(table: &mut [u64], bytes: &[u8]) -> PlainReply {
 
 fn try_read_image(table: &mut [u64], bytes: &[u8]) -> Outcome<()> {
     let slots = length_of(table)?;
-    let (order, keys) = candidate(bytes).ok_or(IMAGE)?;
-    let nodes = Nodes::new(order, keys);
+    let (order, nodes) = nodes_of(bytes).ok_or(IMAGE)?;
     refuse_if(!nodes.layout(order).is_image(bytes), IMAGE)?;
     refuse_if(nodes.number() > slots, TOO_MANY)?;
     nodes.write_table(table, order);
@@ -227,8 +267,7 @@ pub fn list(bytes: &[u8], output: &mut [u8]) -> LengthReply {
 }
 
 fn try_list(bytes: &[u8], output: &mut [u8]) -> Outcome<usize> {
-    let (order, keys) = candidate(bytes).ok_or(IMAGE)?;
-    let nodes = Nodes::new(order, keys);
+    let (order, nodes) = nodes_of(bytes).ok_or(IMAGE)?;
     let layout = nodes.layout(order);
     refuse_if(!layout.is_image(bytes), IMAGE)?;
     let length = listing::length(&layout);

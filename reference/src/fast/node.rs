@@ -2,6 +2,7 @@
 
 use super::home::Homes;
 use super::record::Record;
+use super::stored::Stored;
 use crate::priority::{priority, Entry};
 
 /// A key's words, its priority, its slot, and how many slots it was driven on
@@ -16,26 +17,33 @@ pub struct Node {
     pub leader: u64,
     pub rank: u64,
     pub count: u64,
-    pub slot: u32,
-    pub driven: u32,
+    pub slot: u16,
+    pub driven: u16,
+    pub measure: Stored,
 }
 
 impl Node {
     /// A key that is in no slot yet.
     #[inline(always)]
-    pub fn unplaced(key: u64) -> Node {
+    pub fn unplaced(key: u64, measure: Stored) -> Node {
         Node {
             key,
             priority: priority(key),
+            measure,
             ..Node::default()
         }
     }
 
+    /// The key of a slot whose measure is right.
     #[inline(always)]
     pub fn new(record: &Record, slot: usize, homes: Homes) -> Node {
-        let [key, left, right, leader, rank, count] = *record;
+        let [key, left, right, leader, rank, count, length, correction] = *record;
         let priority = priority(key);
-        let driven = homes.driven(priority, slot) as u32;
+        let driven = homes.driven(priority, slot) as u16;
+        let measure = Stored {
+            length: length as u16,
+            correction: correction as u16,
+        };
         Node {
             key,
             priority,
@@ -44,8 +52,9 @@ impl Node {
             leader,
             rank,
             count,
-            slot: slot as u32,
+            slot: slot as u16,
             driven,
+            measure,
         }
     }
 
@@ -67,6 +76,8 @@ impl Node {
             self.leader,
             self.rank,
             self.count,
+            self.measure.length.into(),
+            self.measure.correction.into(),
         ]
     }
 }

@@ -6,8 +6,12 @@ use crate::table::{HEADER_WORDS, SLOT_WORDS};
 use crate::MOST_SLOTS;
 use std::slice;
 
-/// One slot: "key, left, right, leader, rank, count".
+/// One slot: "key, left, right, leader, rank, count", and "these two words after
+/// count", the length and the stored correction.
 pub type Record = [u64; SLOT_WORDS];
+
+/// "An empty slot is all zeros."
+pub const EMPTY: Record = [0; SLOT_WORDS];
 
 pub const KEY: usize = 0;
 pub const LEFT: usize = 1;
@@ -15,6 +19,8 @@ pub const RIGHT: usize = 2;
 pub const LEADER: usize = 3;
 pub const RANK: usize = 4;
 pub const COUNT: usize = 5;
+pub const LENGTH: usize = 6;
+pub const CORRECTION: usize = 7;
 
 /// "Words 0 to 2: α, n, root key."
 pub const ORDER: usize = 0;

@@ -1,8 +1,10 @@
-//! Random numbers and sets for the tests.
+//! Random numbers, measures and sets for the tests.
 #![allow(dead_code)]
 
+use reference::measure::Measure;
 use reference::priority::TIES;
 use reference::random::splitmix;
+use reference::Contents;
 use std::collections::BTreeSet;
 
 /// A state of the generator.
@@ -38,9 +40,101 @@ impl Random {
         set.into_iter().collect()
     }
 
-    pub fn shuffle(&mut self, list: &mut [u64]) {
+    /// The measure of a measured key, at an end of the rules now and then.
+    pub fn measured(&mut self) -> Measure {
+        let length = match self.below(8) {
+            0 => 10_000,
+            1 => 40_000,
+            _ => 10_000 + self.below(30_001),
+        };
+        let correction = match self.below(8) {
+            0 => -5_000,
+            1 => 5_000,
+            2 => 0,
+            _ => self.below(10_001) as i32 - 5_000,
+        };
+        Measure { length, correction }
+    }
+
+    /// A right measure.
+    pub fn measure(&mut self) -> Measure {
+        match self.below(2) {
+            0 => Measure::NONE,
+            _ => self.measured(),
+        }
+    }
+
+    /// A measure that is outside the rules.
+    pub fn wrong_measure(&mut self) -> Measure {
+        WRONG[self.below(WRONG.len() as u64) as usize]
+    }
+
+    /// A measure, outside the rules now and then.
+    pub fn any_measure(&mut self) -> Measure {
+        match self.below(6) {
+            0 => self.wrong_measure(),
+            _ => self.measure(),
+        }
+    }
+
+    /// An order and rising keys: none of them measured, all, or some.
+    pub fn contents(&mut self, order: u64, keys: &[u64]) -> Contents {
+        let kind = self.below(3);
+        let mut contents = Contents::unmeasured(order, keys);
+        for measure in contents.set.values_mut() {
+            *measure = match kind {
+                0 => Measure::NONE,
+                1 => self.measured(),
+                _ => self.measure(),
+            };
+        }
+        contents
+    }
+
+    pub fn shuffle<T>(&mut self, list: &mut [T]) {
         for i in (1..list.len()).rev() {
             list.swap(i, self.below(i as u64 + 1) as usize);
         }
     }
+}
+
+/// Measures outside the rules: each length and each correction that is next to one
+/// within them, those that would be within if they were cut to fewer bits, and a
+/// correction left over where the length is 0.
+pub const WRONG: [Measure; 18] = [
+    Measure::new(9_999, 0),
+    Measure::new(40_001, 0),
+    Measure::new(1, 0),
+    Measure::new(1, 1),
+    Measure::new(65_536 + 10_000, 0),
+    Measure::new((1 << 32) + 25_000, 0),
+    Measure::new(1 << 32, 0),
+    Measure::new(1 << 63, 0),
+    Measure::new(u64::MAX, 0),
+    Measure::new(10_000, -5_001),
+    Measure::new(40_000, 5_001),
+    Measure::new(25_000, i32::MIN),
+    Measure::new(25_000, i32::MAX),
+    Measure::new(25_000, 65_536),
+    Measure::new(0, 1),
+    Measure::new(0, -1),
+    Measure::new(0, -5_000),
+    Measure::new(0, i32::MIN),
+];
+
+/// Where an image has the bytes of measures.
+pub fn measure_bytes(image: &[u8]) -> Vec<usize> {
+    let (mut places, mut at) = (vec![], 15);
+    while at < image.len() {
+        at += match &image[at..at + 2] {
+            b"LB" => 14,
+            b"LN" => 30,
+            b"LM" => {
+                places.extend(at + 30..at + 36);
+                36
+            }
+            mark => panic!("no record has the mark {mark:?}"),
+        };
+    }
+    places
 }

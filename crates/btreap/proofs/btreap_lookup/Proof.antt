@@ -15,7 +15,9 @@ looked-up-requires : tie.Need-looked-up-requires
 looked-up-requires c κs = search needs
 
 returns : tie.Need-returns
-returns c = c .looked-up .ensures ∙ c .before .look-up .ensures
+returns c =
+    let answer = c .before .look-up .ensures in
+    (c .looked-up .ensures .0 ∙ answer .0, c .looked-up .ensures .1 ∙ answer .1)
 
 pub btreap-lookup-spec : {M : Type 1} → statement M
 btreap-lookup-spec = tie.close (tie.spec look-up-requires looked-up-requires returns)

@@ -7,8 +7,6 @@ use Rattle.lists.proofs.Replaced.{replaced, replaced-next, replaced-all, map-co
 use borrow.Author.Needs.{needs}
 use Rattle.call_build.proofs.clear.Statement.{statement}
 use Rattle.call_build.proofs.clear.Tie as tie
-use Rattle.call_build.proofs.clear.Reads as reads
-use Rattle.call_build.proofs.clear.Lts as lts
 
 abbrev Inv-loop : tie.InvT-loop
 Inv-loop words₀ i₀ i-end words i =

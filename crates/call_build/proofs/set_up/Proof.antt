@@ -12,11 +12,6 @@ use Rattle.call_build.proofs.SettingUp.{refused-length, refused-order, 
 use borrow.Author.Needs.{needs}
 use Rattle.call_build.proofs.set_up.Statement.{statement}
 use Rattle.call_build.proofs.set_up.Tie as tie
-use Rattle.call_build.proofs.set_up.Reads as reads
-use Rattle.call_build.proofs.set_up.Lts as lts
-use Rattle.table_limits.proofs.is_new_order.Reads as is-new-order-reads
-use Rattle.table_limits.proofs.slots_for.Reads as slots-for-reads
-use Rattle.call_build.proofs.clear.Reads as clear-reads
 
 -- past the first test the words have a right length, past the second the order is right
 right-length : (p : tie.Else1) → slotsFor (length (p .before .before .before .args .table .now)) ≢ 0

@@ -7,10 +7,6 @@ use Rattle.call_delete.proofs.Deleting.{refused-length, refused-zero}
 use borrow.Author.Needs.{needs}
 use Rattle.call_delete.proofs.delete.Statement.{statement}
 use Rattle.call_delete.proofs.delete.Tie as tie
-use Rattle.call_delete.proofs.delete.Reads as reads
-use Rattle.call_delete.proofs.delete.Lts as lts
-use Rattle.call_delete.proofs.delete_with_room.Reads as delete-with-room-reads
-use Rattle.table_limits.proofs.slots_for.Reads as slots-for-reads
 
 slots-for-requires : tie.Need-slots-for-requires
 slots-for-requires c κs = search needs

@@ -1,40 +1,38 @@
 -- `call_delete::delete_known` meets its contract. Assumes nothing.
 use mathlib.Core.Bool.{true}
-use mathlib.Core.Path.{_≡_, sym, _∙_}
+use mathlib.Core.Path.{_≡_, sym, _∙_, subst}
 use Prim.Native.Nat.{ℕ}
 use native.Mathlib.Omega.{arith}
 use borrow.Author.Tests.{not-true, not-false}
-use Rattle.lists.specs.Lists.{member}
+use Rattle.lists.specs.Lists.{Rising, member}
+use Rattle.table.specs.Contents.{keysIn}
 use Rattle.table.specs.Table.{contentsOf}
 use Rattle.call_changes.proofs.Knowing.{Facts, facts}
-use Rattle.call_delete.proofs.Deleting.{leaves-absent, left-inside, can-be-written, leaves-without}
+use Rattle.call_changes.proofs.Editing.{Removed}
+use Rattle.call_delete.proofs.Deleting.{leaves-absent, key-there, some-left, can-be-written, leaves-without}
 use borrow.Author.Needs.{needs}
 use Rattle.call_delete.proofs.delete_known.Statement.{statement}
 use Rattle.call_delete.proofs.delete_known.Tie as tie
-use Rattle.call_delete.proofs.delete_known.Reads as reads
-use Rattle.call_delete.proofs.delete_known.Lts as lts
-use Rattle.priority.proofs.priority_from.Reads as priority-from-reads
-use Rattle.call_sets.proofs.take_out.Reads as take-out-reads
-use Rattle.table_entries.proofs.holds.Reads as holds-reads
-use Rattle.table_entries.proofs.rank_of.Reads as rank-of-reads
-use Rattle.call_changes.proofs.rewrite.Reads as rewrite-reads
 
 -- ---- the table as it came
 abbrev begun : tie.After-holds → tie.Start
-begun p = p .before .before .before .before .before
+begun p = p .before .before .before .before .before .before
 
 abbrev key : tie.After-holds → ℕ
 key p = begun p .args .key
 
-told : (p : tie.After-holds) → Facts (begun p .args .many) (begun p .args .table .now) (begun p .args .keys .now)
-told p = facts _ _ _ (begun p .pre .0) (λ i. omega (arith, p .before .before .before .before .slice-known .given i))
+told : (p : tie.After-holds) → Facts (begun p .args .many) (begun p .args .table .now) (begun p .args .keys .now) (begun p .args .tags .now)
+told p = facts _ _ _ _ (begun p .pre .0) (λ i. omega (arith, p .before .before .before .before .before .slice-known .given i))
 
-held : (p : tie.Else1) → member (key (p .before)) (contentsOf (begun (p .before) .args .many) (begun (p .before) .args .table .now) .keys) ≡ true
+held : (p : tie.Else1) → member (key (p .before)) (keysIn (contentsOf (begun (p .before) .args .many) (begun (p .before) .args .table .now))) ≡ true
 held p = sym (p .before .holds .ensures) ∙ not-false (p .before .holds .result) (p .if1 .left)
 
--- ---- where it is held
+-- ---- where it is held, and once it is taken out
 abbrev held-at : tie.After-take-out → tie.Else1
-held-at p = p .before .before .before .before .before
+held-at p = p .before .before .before .before .before .before
+
+out : (p : tie.After-take-out) → Removed (told (held-at p .before)) (key (held-at p .before)) (p .take-out .last .0) (p .take-out .last .1 .0)
+out p = record { keys-left = p .take-out .ensures .0; tags-left = p .take-out .ensures .1 }
 
 priority-from-requires : tie.Need-priority-from-requires
 priority-from-requires c κs = search needs
@@ -62,27 +60,26 @@ rank-of-requires c κs =
 
 take-out-requires : tie.Need-take-out-requires
 take-out-requires c κs =
-    let q = c .before .before .before .before .before in
-    omega (arith, told q .size, told q .inside)
+    let e = c .before .before .before .before .before in
+    let q = e .before in
+    let t = told q in
+    (omega (arith, t .size, t .inside), omega (arith, t .size, t .tags-inside), subst Rising (sym (t .taken)) (t .valid .keys-rise), key-there t (key q) (begun q .pre .1 .0) (held e))
+
+sub-rewrite : tie.Need-sub-rewrite
+sub-rewrite c =
+    let e = c .before .before .before .before .before .before .before .before .before .before .before .before .before in
+    let q = e .before in
+    omega (arith, some-left (told q) (key q) (begun q .pre .1 .0) (held e))
 
 rewrite-requires : tie.Need-rewrite-requires
 rewrite-requires c κs =
-    let p = c .before .before .before .before in
-    let q = held-at p .before in
-    let k = told q .known in
-    let out = p .take-out in (
-      can-be-written (told q) (key q) (begun q .pre .1 .0) (out .last .0) (out .result) (out .ensures .0) (out .ensures .1),
-      (
-        k .some,
-        k .most,
-        k .long,
-        omega (
-          arith,
-          left-inside (told q) (key q) (begun q .pre .1 .0) (out .last .0) (out .result) (out .ensures .0) (out .ensures .1),
-          c .before .before .before .keys .given,
-        ),
-        begun q .pre .1 .1,
-      ),
+    let p = c .before .before .before .before .before .before .before in
+    let e = held-at p in
+    let q = e .before in
+    let t = told q in
+    let k = t .known in (
+      can-be-written t (key q) (begun q .pre .1 .0) (held e) (p .take-out .last .0) (p .take-out .last .1 .0) (out p),
+      (k .some, k .most, k .long, omega (arith, t .size, t .inside, c .before .before .before .before .before .before .keys .given), omega (arith, t .size, t .tags-inside, c .before .before .before .before .tags .given), begun q .pre .1 .1),
     )
 
 same-length-2 : tie.Need-same-length-2
@@ -91,14 +88,17 @@ same-length-2 c = search needs
 same-length-3 : tie.Need-same-length-3
 same-length-3 c = search needs
 
+same-length-4 : tie.Need-same-length-4
+same-length-4 c = search needs
+
 returns-2 : tie.Need-returns-2
 returns-2 c =
     let w = c .before .before in
-    let p = w .before .before .before .before .before in
-    let q = held-at p .before in
-    let out = p .take-out in
-    let r = p .before .before .rank-of in
-    leaves-without (told q) (key q) (begun q .pre .1 .0) (out .last .0) (out .result) (out .ensures .0) (out .ensures .1) (held (held-at p))
+    let p = c .before .before .before .before .before .before .before .before .before .before in
+    let e = held-at p in
+    let q = e .before in
+    let r = c .before .before .before .before .before .before .before .before .before .before .before .before .before .rank-of in
+    leaves-without (told q) (key q) (begun q .pre .1 .0) (held e) (p .take-out .last .0) (p .take-out .last .1 .0) (out p)
     (w .rewrite .last .0) (w .rewrite .ensures .0) (w .rewrite .ensures .1) (r .result) (r .ensures)
 
 pub delete-known-spec : {M : Type 1} → statement M
@@ -112,7 +112,9 @@ delete-known-spec =
     slice-read-n
     rank-of-requires
     take-out-requires
+    sub-rewrite
     rewrite-requires
     same-length-2
     same-length-3
+    same-length-4
     returns-2)

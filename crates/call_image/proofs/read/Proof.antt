@@ -7,10 +7,6 @@ use Rattle.call_image.proofs.Reading.{refused-length}
 use borrow.Author.Needs.{needs}
 use Rattle.call_image.proofs.read.Statement.{statement}
 use Rattle.call_image.proofs.read.Tie as tie
-use Rattle.call_image.proofs.read.Reads as reads
-use Rattle.call_image.proofs.read.Lts as lts
-use Rattle.call_image.proofs.read_with_room.Reads as read-with-room-reads
-use Rattle.table_limits.proofs.slots_for.Reads as slots-for-reads
 
 slots-for-requires : tie.Need-slots-for-requires
 slots-for-requires c κs = search needs

@@ -7,10 +7,6 @@ use Rattle.call_image.proofs.Imaging.{refused-length}
 use borrow.Author.Needs.{needs}
 use Rattle.call_image.proofs.write.Statement.{statement}
 use Rattle.call_image.proofs.write.Tie as tie
-use Rattle.call_image.proofs.write.Reads as reads
-use Rattle.call_image.proofs.write.Lts as lts
-use Rattle.call_image.proofs.write_with_room.Reads as write-with-room-reads
-use Rattle.table_limits.proofs.slots_for.Reads as slots-for-reads
 
 slots-for-requires : tie.Need-slots-for-requires
 slots-for-requires c κs = search needs

@@ -1,26 +1,26 @@
 -- `call_image::write_in` meets its contract. Assumes nothing.
 use mathlib.Core.List.{List}
-use mathlib.Core.Path.{sym, _∙_}
+use mathlib.Core.Path.{sym, _∙_, subst₂}
 use Prim.Native.Nat.{ℕ, _≤_}
 use native.Mathlib.Omega.{arith}
 use lib.ListN.{length, take}
 use lib.Seq.{length-take-le}
+use Rattle.table.specs.Tags.{Beside}
+use Rattle.table.specs.Table.{contentsOf}
+use Rattle.table.proofs.Tagged.{tags-beside}
+use Rattle.table.proofs.Soundness.{sound-measures}
 use Rattle.table_examine.proofs.Verdicts.{told-false}
 use Rattle.table_examine.proofs.Examined.{Examined, examined, examined-writable}
 use Rattle.call_image.proofs.Imaging.{refused-table, refused-short, accepted}
 use borrow.Author.Needs.{needs}
 use Rattle.call_image.proofs.write_in.Statement.{statement}
 use Rattle.call_image.proofs.write_in.Tie as tie
-use Rattle.call_image.proofs.write_in.Reads as reads
-use Rattle.call_image.proofs.write_in.Lts as lts
-use Rattle.table_examine.proofs.examine.Reads as examine-reads
-use Rattle.image_write.proofs.write.Reads as write-reads
 
 abbrev begun : tie.After-examine → tie.Start
-begun q = q .before .before .before .before .before .before
+begun q = q .before .before .before .before .before .before .before .before
 
 abbrev judged-at : tie.After-found → tie.After-examine
-judged-at p = p .before .before .before .before
+judged-at p = p .before .before .before .before .before .before
 
 abbrev size : tie.After-found → ℕ
 size p = p .found .given .0 .0
@@ -28,15 +28,29 @@ size p = p .found .given .0 .0
 abbrev listed : tie.After-found → List ℕ
 listed p = judged-at p .examine .last .1 .1 .0
 
-found : (p : tie.After-found) → Examined (begun (judged-at p) .args .many) (begun (judged-at p) .args .table .now) (begun (judged-at p) .args .keys .now) (listed p) (size p)
+abbrev tagged : tie.After-found → List ℕ
+tagged p = judged-at p .examine .last .1 .1 .1 .0
+
+found : (p : tie.After-found) → Examined (begun (judged-at p) .args .many) (begun (judged-at p) .args .table .now) (begun (judged-at p) .args .keys .now) (listed p)
+    (begun (judged-at p) .args .tags .now) (tagged p) (size p)
 found p =
     let q = judged-at p in
     let start = begun q in
-    examined (start .args .many) (start .args .table .now) (start .args .keys .now) (listed p) (size p) (q .examine .result) (q .examine .ensures .0)
-    (p .found .given .1) (q .examine .ensures .1) (start .pre .3)
+    examined (start .args .many) (start .args .table .now) (start .args .keys .now) (listed p) (start .args .tags .now) (tagged p) (size p) (q .examine .result) (q .examine .ensures .0)
+    (p .found .given .1) (q .examine .ensures .1 .0) (q .examine .ensures .1 .1) (start .pre .3) (start .pre .4)
 
 inside : (p : tie.After-found) → size p ≤ length (listed p)
-inside p = omega (arith, found p .most, found p .long, begun (judged-at p) .pre .3)
+inside p = omega (arith, found p .most, found p .keys-there .long, begun (judged-at p) .pre .3)
+
+tags-inside : (p : tie.After-found) → size p ≤ length (tagged p)
+tags-inside p = omega (arith, found p .most, found p .tags-there .long, begun (judged-at p) .pre .4)
+
+beside : (p : tie.After-found) → Beside (take (size p) (listed p)) (take (size p) (tagged p))
+beside p =
+    let start = begun (judged-at p) in
+    let many = start .args .many in
+    let words = start .args .table .now in
+    subst₂ Beside (sym (found p .keys-there .taken)) (sym (found p .tags-there .taken)) (tags-beside (contentsOf many words .entries) (sound-measures many words (found p .sound)))
 
 shared-slice-read-order : tie.Need-shared-slice-read-order
 shared-slice-read-order c = search needs
@@ -53,9 +67,12 @@ enum-told c = search needs
 same-length : tie.Need-same-length
 same-length c = search needs
 
+same-length-2 : tie.Need-same-length-2
+same-length-2 c = search needs
+
 returns : tie.Need-returns
 returns c =
-    let q = c .before .before .before .before in
+    let q = c .before .before .before .before .before .before in
     let start = begun q in
     refused-table (start .args .table .now) (start .args .output .now) (start .args .many) (start .pre .0) (start .pre .1) (start .pre .2)
     (told-false (start .args .many) (start .args .table .now) (sym (q .examine .ensures .0) ∙ c .enum-told .given .1))
@@ -66,25 +83,20 @@ slice-reshare-prefix-write c = inside (c .before)
 slice-aggregate-write : tie.Need-slice-aggregate-write
 slice-aggregate-write c = sym (length-take-le _ _ (inside (c .before .before)))
 
+slice-reshare-prefix-write-2 : tie.Need-slice-reshare-prefix-write-2
+slice-reshare-prefix-write-2 c = tags-inside (c .before .before)
+
+slice-aggregate-write-2 : tie.Need-slice-aggregate-write-2
+slice-aggregate-write-2 c = sym (length-take-le _ _ (tags-inside (c .before .before .before)))
+
 write-requires : tie.Need-write-requires
 write-requires c κs =
-    let p = c .before .before .before in
+    let p = c .before .before .before .before in
     let start = begun (judged-at p) in
-    (examined-writable (start .args .many) (start .args .table .now) (start .args .keys .now) (listed p) (size p) (start .pre .1) (found p), start .pre .4)
-
-same-length-2 : tie.Need-same-length-2
-same-length-2 c = search needs
+    (examined-writable (start .args .many) (start .args .table .now) (start .args .keys .now) (listed p) (start .args .tags .now) (tagged p) (size p) (start .pre .1) (found p), beside p, start .pre .5)
 
 same-length-3 : tie.Need-same-length-3
 same-length-3 c = search needs
-
-returns-2 : tie.Need-returns-2
-returns-2 c =
-    let w = c .before .before .before in
-    let p = w .before .before .before .before in
-    let start = begun (judged-at p) in
-    refused-short (start .args .table .now) (start .args .output .now) (start .args .many) (start .pre .0) (start .pre .1) (start .pre .2) (found p .sound)
-    (take (size p) (listed p)) (found p .taken) (w .write .result) (w .write .ensures .0) (omega (arith, c .if1 .taken)) (w .write .last .1 .1 .0) (w .write .ensures .1)
 
 same-length-4 : tie.Need-same-length-4
 same-length-4 c = search needs
@@ -92,13 +104,32 @@ same-length-4 c = search needs
 same-length-5 : tie.Need-same-length-5
 same-length-5 c = search needs
 
+returns-2 : tie.Need-returns-2
+returns-2 c =
+    let w = c .before .before .before in
+    let p = w .before .before .before .before .before in
+    let start = begun (judged-at p) in
+    refused-short (start .args .table .now) (start .args .output .now) (start .args .many) (start .pre .0) (start .pre .1) (start .pre .2) (found p .sound)
+    (take (size p) (listed p)) (take (size p) (tagged p)) (found p .keys-there .taken) (found p .tags-there .taken) (w .write .result) (w .write .ensures .0) (omega (arith, c .if1 .taken))
+    (w .write .last .1 .1 .1 .0) (w .write .ensures .1)
+
+same-length-6 : tie.Need-same-length-6
+same-length-6 c = search needs
+
+same-length-7 : tie.Need-same-length-7
+same-length-7 c = search needs
+
+same-length-8 : tie.Need-same-length-8
+same-length-8 c = search needs
+
 returns-3 : tie.Need-returns-3
 returns-3 c =
     let w = c .before .before .before in
-    let p = w .before .before .before .before in
+    let p = w .before .before .before .before .before in
     let start = begun (judged-at p) in
     accepted (start .args .table .now) (start .args .output .now) (start .args .many) (start .pre .0) (start .pre .1) (start .pre .2) (found p .sound)
-    (take (size p) (listed p)) (found p .taken) (w .write .result) (w .write .ensures .0) (omega (arith, c .if1 .left)) (w .write .last .1 .1 .0) (w .write .ensures .1)
+    (take (size p) (listed p)) (take (size p) (tagged p)) (found p .keys-there .taken) (found p .tags-there .taken) (w .write .result) (w .write .ensures .0) (omega (arith, c .if1 .left))
+    (w .write .last .1 .1 .1 .0) (w .write .ensures .1)
 
 pub write-in-spec : {M : Type 1} → statement M
 write-in-spec =
@@ -109,13 +140,18 @@ write-in-spec =
     enum-known-found
     enum-told
     same-length
+    same-length-2
     returns
     slice-reshare-prefix-write
     slice-aggregate-write
+    slice-reshare-prefix-write-2
+    slice-aggregate-write-2
     write-requires
-    same-length-2
     same-length-3
-    returns-2
     same-length-4
     same-length-5
+    returns-2
+    same-length-6
+    same-length-7
+    same-length-8
     returns-3)

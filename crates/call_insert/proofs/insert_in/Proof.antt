@@ -3,14 +3,12 @@ use mathlib.Core.Path.{sym, _∙_}
 use Prim.Native.Nat.{_<_}
 use native.Mathlib.Omega.{arith}
 use borrow.Author.Tests.{not-true, not-false}
+use Rattle.measure.specs.Tag.{measureAt}
+use Rattle.measure.proofs.Tags.{tag-measures}
 use Rattle.call_insert.proofs.Inserting.{refused-table}
 use borrow.Author.Needs.{needs}
 use Rattle.call_insert.proofs.insert_in.Statement.{statement}
 use Rattle.call_insert.proofs.insert_in.Tie as tie
-use Rattle.call_insert.proofs.insert_in.Reads as reads
-use Rattle.call_insert.proofs.insert_in.Lts as lts
-use Rattle.call_changes.proofs.know.Reads as know-reads
-use Rattle.call_insert.proofs.insert_known.Reads as insert-known-reads
 
 know-requires : tie.Need-know-requires
 know-requires c κs = search needs
@@ -21,25 +19,33 @@ same-length c = search needs
 same-length-2 : tie.Need-same-length-2
 same-length-2 c = search needs
 
-returns : tie.Need-returns
-returns c =
-    let q = c .before .before .before in
-    let start = q .before .before .before .before .before in
-    refused-table (start .args .table .now) (start .args .key) (start .args .many) (start .pre .0) (start .pre .1) (start .pre .2) (start .pre .3)
-    (sym (q .know .ensures .0) ∙ not-true (q .know .result) (c .if1 .taken))
-
-insert-known-requires : tie.Need-insert-known-requires
-insert-known-requires c κs =
-    let e = c .before .before in
-    let q = e .before .before .before in
-    let pre = q .before .before .before .before .before .pre in
-    (q .know .ensures .1 (not-false (q .know .result) (e .if1 .left)), (pre .3, λ absent (room : _ < _). omega (arith, pre .4, e .before .before .keys .given), pre .5))
-
 same-length-3 : tie.Need-same-length-3
 same-length-3 c = search needs
 
+returns : tie.Need-returns
+returns c =
+    let q = c .before .before .before .before .before in
+    let start = q .before .before .before .before .before .before .before in
+    refused-table (start .args .table .now) (start .args .key) (measureAt (start .args .tag)) (start .args .many) (start .pre .0) (start .pre .1) (start .pre .2) (start .pre .3)
+    (tag-measures (start .args .tag) (start .pre .4)) (sym (q .know .ensures .0) ∙ not-true (q .know .result) (c .if1 .taken))
+
+insert-known-requires : tie.Need-insert-known-requires
+insert-known-requires c κs =
+    let e = c .before .before .before in
+    let q = c .before .before .before .before .before .before .before .before in
+    let pre = q .before .before .before .before .before .before .before .pre in (
+      q .know .ensures .1 (not-false (q .know .result) (e .if1 .left)),
+      (pre .3, pre .4, λ absent (room : _ < _). omega (arith, pre .5, e .before .before .before .before .keys .given), λ absent (room : _ < _). omega (arith, pre .6, e .before .before .tags .given), pre .7),
+    )
+
 same-length-4 : tie.Need-same-length-4
 same-length-4 c = search needs
+
+same-length-5 : tie.Need-same-length-5
+same-length-5 c = search needs
+
+same-length-6 : tie.Need-same-length-6
+same-length-6 c = search needs
 
 returns-2 : tie.Need-returns-2
 returns-2 c = search needs
@@ -51,8 +57,10 @@ insert-in-spec =
     know-requires
     same-length
     same-length-2
+    same-length-3
     returns
     insert-known-requires
-    same-length-3
     same-length-4
+    same-length-5
+    same-length-6
     returns-2)

@@ -8,17 +8,12 @@ use Rattle.call_list.proofs.Calling.{refused-bytes, refused-short, acce
 use borrow.Author.Needs.{needs}
 use Rattle.call_list.proofs.list_in.Statement.{statement}
 use Rattle.call_list.proofs.list_in.Tie as tie
-use Rattle.call_list.proofs.list_in.Reads as reads
-use Rattle.call_list.proofs.list_in.Lts as lts
-use Rattle.text_listing.proofs.size.Reads as size-reads
-use Rattle.text_listing.proofs.write.Reads as write-reads
-use Rattle.image_recognize.proofs.recognize.Reads as recognize-reads
 
 abbrev begun : tie.After-recognize → tie.Start
-begun q = q .before .before .before .before .before
+begun q = q .before .before .before .before .before .before .before
 
 abbrev read-at : tie.After-found → tie.After-recognize
-read-at p = p .before .before .before .before
+read-at p = p .before .before .before .before .before .before
 
 one : (p : tie.After-found) → isImage (begun (read-at p) .args .image .now) ≡ true
 one p = told-image (begun (read-at p) .args .image .now) (p .found .given .0 .0) (sym (read-at p .recognize .ensures .0) ∙ p .found .given .1)
@@ -35,17 +30,23 @@ enum-told c = search needs
 same-length : tie.Need-same-length
 same-length c = search needs
 
+same-length-2 : tie.Need-same-length-2
+same-length-2 c = search needs
+
 returns : tie.Need-returns
 returns c =
-    let q = c .before .before .before .before in
+    let q = c .before .before .before .before .before .before in
     let args = begun q .args in
     refused-bytes (args .image .now) (args .output .now) (told-other (args .image .now) (sym (q .recognize .ensures .0) ∙ c .enum-told .given .1))
 
 size-requires : tie.Need-size-requires
 size-requires c κs = one (c .before)
 
-same-length-2 : tie.Need-same-length-2
-same-length-2 c = search needs
+same-length-3 : tie.Need-same-length-3
+same-length-3 c = search needs
+
+same-length-4 : tie.Need-same-length-4
+same-length-4 c = search needs
 
 returns-2 : tie.Need-returns-2
 returns-2 c =
@@ -58,11 +59,14 @@ write-requires c κs =
     let e = c .before in
     (one (e .before .before .before), omega (arith, e .if1 .left, e .before .size .ensures .0))
 
-same-length-3 : tie.Need-same-length-3
-same-length-3 c = search needs
+same-length-5 : tie.Need-same-length-5
+same-length-5 c = search needs
 
-same-length-4 : tie.Need-same-length-4
-same-length-4 c = search needs
+same-length-6 : tie.Need-same-length-6
+same-length-6 c = search needs
+
+same-length-7 : tie.Need-same-length-7
+same-length-7 c = search needs
 
 returns-3 : tie.Need-returns-3
 returns-3 c =
@@ -81,11 +85,14 @@ list-in-spec =
     enum-known-found
     enum-told
     same-length
+    same-length-2
     returns
     size-requires
-    same-length-2
-    returns-2
-    write-requires
     same-length-3
     same-length-4
+    returns-2
+    write-requires
+    same-length-5
+    same-length-6
+    same-length-7
     returns-3)

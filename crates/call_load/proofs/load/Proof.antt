@@ -6,11 +6,6 @@ use Rattle.call_load.proofs.Loads.{Begun, refused, begun, done-so}
 use borrow.Author.Needs.{needs}
 use Rattle.call_load.proofs.load.Statement.{statement}
 use Rattle.call_load.proofs.load.Tie as tie
-use Rattle.call_load.proofs.load.Reads as reads
-use Rattle.call_load.proofs.load.Lts as lts
-use Rattle.call_build.proofs.set_up.Reads as set-up-reads
-use Rattle.call_load.proofs.operate_within.Reads as operate-within-reads
-use Rattle.table_limits.proofs.slots_for.Reads as slots-for-reads
 
 -- ---- past the set-up
 abbrev set-at : tie.After-enum-told → tie.After-set-up
@@ -54,7 +49,7 @@ enum-told c = search needs
 operate-within-requires : tie.Need-operate-within-requires
 operate-within-requires c κs =
     let b = begun-at (c .before) in
-    ((b .some, b .most, b .long, b .sound), ap (λ (d : Contents). d .keys) (b .holds))
+    ((b .some, b .most, b .long, b .sound), ap (λ (d : Contents). d .entries) (b .holds))
 
 same-length-2 : tie.Need-same-length-2
 same-length-2 c = search needs

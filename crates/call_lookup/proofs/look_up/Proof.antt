@@ -5,10 +5,6 @@ use Rattle.call_lookup.proofs.LookingUp.{refused-length, refused-zero}
 use borrow.Author.Needs.{needs}
 use Rattle.call_lookup.proofs.look_up.Statement.{statement}
 use Rattle.call_lookup.proofs.look_up.Tie as tie
-use Rattle.call_lookup.proofs.look_up.Reads as reads
-use Rattle.call_lookup.proofs.look_up.Lts as lts
-use Rattle.call_lookup.proofs.look_up_with_constants.Reads as look-up-with-constants-reads
-use Rattle.table_limits.proofs.slots_for.Reads as slots-for-reads
 
 slots-for-requires : tie.Need-slots-for-requires
 slots-for-requires c κs = search needs

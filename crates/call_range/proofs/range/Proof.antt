@@ -7,10 +7,6 @@ use Rattle.call_range.proofs.Ranging.{refused-length, refused-order}
 use borrow.Author.Needs.{needs}
 use Rattle.call_range.proofs.range.Statement.{statement}
 use Rattle.call_range.proofs.range.Tie as tie
-use Rattle.call_range.proofs.range.Reads as reads
-use Rattle.call_range.proofs.range.Lts as lts
-use Rattle.call_range.proofs.range_with_room.Reads as range-with-room-reads
-use Rattle.table_limits.proofs.slots_for.Reads as slots-for-reads
 
 slots-for-requires : tie.Need-slots-for-requires
 slots-for-requires c κs = search needs

@@ -15,13 +15,7 @@ use Rattle.call_step.proofs.Moving.{refused-length, refused-table, was-
 use borrow.Author.Needs.{needs}
 use Rattle.call_step.proofs.step_at.Statement.{statement}
 use Rattle.call_step.proofs.step_at.Tie as tie
-use Rattle.call_step.proofs.step_at.Reads as reads
-use Rattle.call_step.proofs.step_at.Lts as lts
-use Rattle.call_step.proofs.judge.Reads as judge-reads
-use Rattle.table_limits.proofs.slots_for.Reads as slots-for-reads
-use Rattle.table_least.proofs.least_within.Reads as least-within-reads
-use Rattle.call_step.proofs.place_after.Reads as place-after-reads
-use Rattle.call_step.proofs.refused.Reads as refused-reads
+use Rattle.table.specs.Contents.{keysIn}
 
 -- a table of a right length
 some-slots : (p : tie.Else1) → slotsFor (length (p .before .before .before .args .table .now)) ≢ 0
@@ -35,11 +29,11 @@ is-sound p = sym (p .before .judge .ensures) ∙ not-false (p .before .judge .re
 found : (p : tie.After-least-within)
     → p .least-within .result
     ≡ leastWithin (p .before .before .before .before .before .before .before .args .next) (p .before .before .before .before .before .before .before .args .high)
-    (contentsOf (slotsFor (length (p .before .before .before .before .before .before .before .args .table .now))) (p .before .before .before .before .before .before .before .args .table .now) .keys)
+    (keysIn (contentsOf (slotsFor (length (p .before .before .before .before .before .before .before .args .table .now))) (p .before .before .before .before .before .before .before .args .table .now)))
 found p =
     let args = p .before .before .before .before .before .before .before .args in
     p .least-within .ensures
-    ∙ ap (λ (many : ℕ). leastWithin (args .next) (args .high) (contentsOf many (args .table .now) .keys)) (p .before .before .before .before .before .slots-for .ensures)
+    ∙ ap (λ (many : ℕ). leastWithin (args .next) (args .high) (keysIn (contentsOf many (args .table .now)))) (p .before .before .before .before .before .slots-for .ensures)
 
 slots-for-requires : tie.Need-slots-for-requires
 slots-for-requires c κs = search needs

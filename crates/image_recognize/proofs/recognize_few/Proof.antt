@@ -3,9 +3,6 @@ use native.Mathlib.Omega.{arith}
 use borrow.Author.Needs.{needs}
 use Rattle.image_recognize.proofs.recognize_few.Statement.{statement}
 use Rattle.image_recognize.proofs.recognize_few.Tie as tie
-use Rattle.image_recognize.proofs.recognize_few.Reads as reads
-use Rattle.image_recognize.proofs.recognize_few.Lts as lts
-use Rattle.image_recognize.proofs.recognize_within.Reads as recognize-within-reads
 
 slice-aggregate-recognize-within : tie.Need-slice-aggregate-recognize-within
 slice-aggregate-recognize-within c = search needs
@@ -21,11 +18,14 @@ slice-aggregate-recognize-within-4 c = search needs
 
 recognize-within-requires : tie.Need-recognize-within-requires
 recognize-within-requires c κs =
-    let pre = c .before .before .before .before .before .before .before .pre in
-    ((pre .1, pre .0, pre .2), (λ n few h. omega (arith, pre .0), λ n few h. omega (arith, pre .0), λ n few h. omega (arith, pre .0)))
+    let pre = c .before .before .before .before .before .before .before .before .before .pre in
+    ((pre .1, pre .2, pre .0, pre .3), (λ n few h. omega (arith, pre .0), λ n few h. omega (arith, pre .0), λ n few h. omega (arith, pre .0)))
 
 same-length : tie.Need-same-length
 same-length c = search needs
+
+same-length-2 : tie.Need-same-length-2
+same-length-2 c = search needs
 
 returns : tie.Need-returns
 returns c = search needs
@@ -40,4 +40,5 @@ recognize-few-spec =
     slice-aggregate-recognize-within-4
     recognize-within-requires
     same-length
+    same-length-2
     returns)

@@ -2,9 +2,6 @@
 use borrow.Author.Needs.{needs}
 use Rattle.image_recognize.proofs.recognize_many.Statement.{statement}
 use Rattle.image_recognize.proofs.recognize_many.Tie as tie
-use Rattle.image_recognize.proofs.recognize_many.Reads as reads
-use Rattle.image_recognize.proofs.recognize_many.Lts as lts
-use Rattle.image_recognize.proofs.recognize_within.Reads as recognize-within-reads
 
 slice-aggregate-recognize-within : tie.Need-slice-aggregate-recognize-within
 slice-aggregate-recognize-within c = search needs
@@ -20,11 +17,14 @@ slice-aggregate-recognize-within-4 c = search needs
 
 recognize-within-requires : tie.Need-recognize-within-requires
 recognize-within-requires c κs =
-    let pre = c .before .before .before .before .before .before .before .pre in
-    ((pre .1, pre .0, pre .2), (λ n few h. few, λ n few h. few, λ n few h. few))
+    let pre = c .before .before .before .before .before .before .before .before .before .pre in
+    ((pre .1, pre .2, pre .0, pre .3), (λ n few h. few, λ n few h. few, λ n few h. few))
 
 same-length : tie.Need-same-length
 same-length c = search needs
+
+same-length-2 : tie.Need-same-length-2
+same-length-2 c = search needs
 
 returns : tie.Need-returns
 returns c = search needs
@@ -39,4 +39,5 @@ recognize-many-spec =
     slice-aggregate-recognize-within-4
     recognize-within-requires
     same-length
+    same-length-2
     returns)

@@ -15,12 +15,6 @@ use Rattle.image_write.proofs.Arranging.{ranked, filled-from, root-from
 use borrow.Author.Needs.{needs}
 use Rattle.image_write.proofs.arrange.Statement.{statement}
 use Rattle.image_write.proofs.arrange.Tie as tie
-use Rattle.image_write.proofs.arrange.Reads as reads
-use Rattle.image_write.proofs.arrange.Lts as lts
-use Rattle.table_prepare.proofs.fill.Reads as fill-reads
-use Rattle.table_prepare.proofs.prioritize.Reads as prioritize-reads
-use Rattle.image_blocks.proofs.names.weigh.Reads as weigh-reads
-use Rattle.sorting.proofs.by_weight.Reads as by-weight-reads
 
 -- ---- the priorities
 abbrev begun : tie.After-prioritize → tie.Start

@@ -2,9 +2,6 @@
 use borrow.Author.Needs.{needs}
 use Rattle.image_write.proofs.write.Statement.{statement}
 use Rattle.image_write.proofs.write.Tie as tie
-use Rattle.image_write.proofs.write.Reads as reads
-use Rattle.image_write.proofs.write.Lts as lts
-use Rattle.image_write.proofs.write_within.Reads as write-within-reads
 
 slice-aggregate-write-within : tie.Need-slice-aggregate-write-within
 slice-aggregate-write-within c = search needs
@@ -32,9 +29,9 @@ slice-aggregate-write-within-8 c = search needs
 
 write-within-requires : tie.Need-write-within-requires
 write-within-requires c κs =
-    let pre = c .before .before .before .before .before .before .before .before .before .before .before .pre in
+    let pre = c .before .before .before .before .before .before .before .before .before .before .before .before .pre in
     let room = pre .0 .few in
-    (pre .0, ((room, room, room), ((room, room), (room, room, room, pre .1))))
+    ((pre .0, pre .1), ((room, room, room), ((room, room), (room, room, room, pre .2))))
 
 same-length : tie.Need-same-length
 same-length c = search needs

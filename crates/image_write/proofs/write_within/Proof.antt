@@ -10,20 +10,19 @@ use Rattle.image_write.proofs.Connected.{arranged-image}
 use borrow.Author.Needs.{needs}
 use Rattle.image_write.proofs.write_within.Statement.{statement}
 use Rattle.image_write.proofs.write_within.Tie as tie
-use Rattle.image_write.proofs.write_within.Reads as reads
-use Rattle.image_write.proofs.write_within.Lts as lts
-use Rattle.image_write.proofs.arrange.Reads as arrange-reads
-use Rattle.image_parts.proofs.emit.Reads as emit-reads
 
 -- ---- what is arranged
 abbrev begun : tie.After-arrange → tie.Start
-begun a = a .before .before .before .before .before .before .before .before .before .before .before .before .before .before .before .before .before .before .before
+begun a = a .before .before .before .before .before .before .before .before .before .before .before .before .before .before .before .before .before .before .before .before
 
 abbrev order : tie.After-arrange → ℕ
 order a = begun a .args .order
 
 abbrev keys : tie.After-arrange → List ℕ
 keys a = begun a .args .keys .now
+
+abbrev tags : tie.After-arrange → List ℕ
+tags a = begun a .args .tags .now
 
 abbrev weights : tie.After-arrange → List ℕ
 weights a = a .arrange .last .1 .1 .0
@@ -38,7 +37,9 @@ many-sorted : (a : tie.After-arrange) → length (take (length (keys a)) (sorted
 many-sorted a = as-many-sorted (order a) (keys a) (weights a) (sorted a) _ _ _ _ _ (a .arrange .result) (a .arrange .ensures)
 
 arrange-requires : tie.Need-arrange-requires
-arrange-requires c κs = search needs
+arrange-requires c κs =
+    let pre = c .before .before .before .before .before .before .before .before .before .before .before .before .before .before .before .before .before .before .before .pre in
+    (pre .0 .0, pre .1)
 
 slice-reshare-prefix-emit : tie.Need-slice-reshare-prefix-emit
 slice-reshare-prefix-emit c = omega (arith, begun (c .before .before .before .before .before .before .before .before .before .before .before .before .before .before .before .before .before .before .before .before .before) .pre .1 .0, c .before .before .before .before .before .before .before .before .before .before .before .before .before .before .before .before .before .before .before .before .weights .given)
@@ -55,9 +56,9 @@ slice-aggregate-emit-2 c = sym (many-sorted (c .before .before .before .before .
 emit-requires : tie.Need-emit-requires
 emit-requires c κs =
     let a = c .before .before .before .before .before .before .before .before .before .before .before .before .before .before .before .before .before .before .before .before .before .before .before .before in
-    let good = begun a .pre .0 in
+    let good = begun a .pre .0 .0 in
     let made = a .arrange .ensures in (
-      listed (order a) (keys a) good _ _ _ _ _ (made .filled),
+      listed (order a) (keys a) good _ _ _ _ _ (made .filled) (tags a) (begun a .pre .0 .1 .as-many),
       (
         ranked (order a) (keys a) good _ _ _ _ _ (made .filled) (a .arrange .result) (made .root-is),
         (many-weights a, many-sorted a, sorted-within (order a) (keys a) (weights a) (sorted a) _ _ _ _ _ (a .arrange .result) made),
@@ -94,7 +95,7 @@ same-length-9 c = search needs
 returns : tie.Need-returns
 returns c =
     let a = c .before .before .before .before .before .before .before .before .before .before .before .before .before .before .before .before .before .before .before .before .before .before .before .before .before .before .before in
-    let e = arranged-image (order a) (keys a) (weights a) (sorted a) _ _ _ _ _ (a .arrange .result) (begun a .pre .0) (a .arrange .ensures) in
+    let e = arranged-image (order a) (keys a) (tags a) (weights a) (sorted a) _ _ _ _ _ (a .arrange .result) (begun a .pre .0 .0) (begun a .pre .0 .1) (a .arrange .ensures) in
     (c .before .before .emit .ensures .0 ∙ ap length e, c .before .before .emit .ensures .1 ∙ ap (writtenTo (begun a .args .output .now)) e)
 
 pub write-within-spec : {M : Type 1} → statement M

@@ -10,7 +10,7 @@ use Rattle.lists.specs.Lists.{member}
 use Rattle.lists.proofs.Changes.{Counted}
 use Rattle.treap_structure.proofs.Shape.{size}
 use Rattle.table.specs.Layout.{rootWord}
-use Rattle.table.specs.Contents.{Contents, Valid}
+use Rattle.table.specs.Contents.{Contents, Valid, keysIn}
 use Rattle.table.specs.Table.{contentsOf}
 use Rattle.table.proofs.Soundness.{WordSized, sound-valid, shown-fit}
 use Rattle.table_find.specs.Find.{OnlyAt}
@@ -41,7 +41,7 @@ valid : (p : tie.After-shared-slice-known Inv-loop μ-loop) → Valid (p .before
 valid p = sound-valid (p .before .args .many) (p .before .args .table .now) (p .before .pre .0 .3) (sized p)
 
 -- the slot that is found of a held key
-in-slot : (p : tie.After-shared-slice-known Inv-loop μ-loop) (key slot : ℕ) → member key (shows (p .before) .keys) ≡ true → OnlyAt (p .before .args .many) (p .before .args .table .now) key slot
+in-slot : (p : tie.After-shared-slice-known Inv-loop μ-loop) (key slot : ℕ) → member key (keysIn (shows (p .before))) ≡ true → OnlyAt (p .before .args .many) (p .before .args .table .now) key slot
     → InSlot (p .before .args .many) (p .before .args .table .now) key slot
 in-slot p key slot m only =
     let start = p .before in
@@ -66,7 +66,7 @@ returns c =
     none-held (start .args .many) (shows start) (valid known) (start .args .key) (start .args .last) (start .args .before)
     (sym (root-is (start .args .many) (start .args .table .now) (start .pre .0 .3)) ∙ c .if1 .taken)
 
-root-is-held : (p : tie.Else1 Inv-loop μ-loop) → member (getD (p .before .before .before .args .table .now) rootWord 0) (shows (p .before .before .before) .keys) ≡ true
+root-is-held : (p : tie.Else1 Inv-loop μ-loop) → member (getD (p .before .before .before .args .table .now) rootWord 0) (keysIn (shows (p .before .before .before))) ≡ true
 root-is-held p =
     let known = p .before .before in
     let start = known .before in
@@ -107,7 +107,7 @@ returns-2 c =
     ends (start .args .many) (shows start) (valid known) (start .args .key) (start .args .last) (start .args .before) (start .pre .1 .0) (start .pre .1 .1) (loop .at) (loop .level) (loop .low) (loop .met) (loop .inv .0)
     (p .loop-test .taken) (sym (c .before .next-of .ensures) ∙ c .if2 .taken)
 
-next-is-held : (p : tie.Else2 Inv-loop μ-loop) → member (p .before .next-of .result) (shows (begun (entered p) .before) .keys) ≡ true
+next-is-held : (p : tie.Else2 Inv-loop μ-loop) → member (p .before .next-of .result) (keysIn (shows (begun (entered p) .before))) ≡ true
 next-is-held p =
     let known = begun (entered p) in
     let start = known .before in

@@ -5,8 +5,6 @@ use Rattle.table_encode.proofs.Stores.{slot-stores}
 use borrow.Author.Needs.{needs}
 use Rattle.table_encode.proofs.write_slot.Statement.{statement}
 use Rattle.table_encode.proofs.write_slot.Tie as tie
-use Rattle.table_encode.proofs.write_slot.Reads as reads
-use Rattle.table_encode.proofs.write_slot.Lts as lts
 
 add-table : tie.Need-add-table
 add-table c = search needs
@@ -62,11 +60,31 @@ mul-table-6 c = search needs
 slice-write-table-6 : tie.Need-slice-write-table-6
 slice-write-table-6 c = simp length-set (omega arith)
 
+add-table-7 : tie.Need-add-table-7
+add-table-7 c = search needs
+
+mul-table-7 : tie.Need-mul-table-7
+mul-table-7 c = search needs
+
+slice-write-table-7 : tie.Need-slice-write-table-7
+slice-write-table-7 c = simp length-set (omega arith)
+
+add-table-8 : tie.Need-add-table-8
+add-table-8 c = search needs
+
+mul-table-8 : tie.Need-mul-table-8
+mul-table-8 c = search needs
+
+slice-write-table-8 : tie.Need-slice-write-table-8
+slice-write-table-8 c = simp length-set (omega arith)
+
 same-length : tie.Need-same-length
 same-length c = search needs
 
 returns : tie.Need-returns
-returns c = slot-stores (c .args .table .now) (c .args .at) (c .args .slot .key) (c .args .slot .left) (c .args .slot .right) (c .args .slot .leader) (c .args .slot .rank) (c .args .slot .count) (c .pre)
+returns c =
+    let slot = c .args .slot in
+    slot-stores (c .args .table .now) (c .args .at) (slot .key) (slot .left) (slot .right) (slot .leader) (slot .rank) (slot .count) (slot .length) (slot .correction) (c .pre)
 
 pub write-slot-spec : {M : Type 1} → statement M
 write-slot-spec =
@@ -90,5 +108,11 @@ write-slot-spec =
     add-table-6
     mul-table-6
     slice-write-table-6
+    add-table-7
+    mul-table-7
+    slice-write-table-7
+    add-table-8
+    mul-table-8
+    slice-write-table-8
     same-length
     returns)

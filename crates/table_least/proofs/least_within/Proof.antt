@@ -1,6 +1,6 @@
 -- `table_least::least_within` meets its contract. The loop's invariant: the least key of the slots passed. Assumes nothing.
-use mathlib.Core.Path.{_≡_, sym, ap, ap₂, _∙_}
-use Prim.Native.Nat.{ℕ, suc, _+_, _-_, _≤_}
+use mathlib.Core.Path.{_≡_, sym, ap, _∙_}
+use Prim.Native.Nat.{ℕ, _-_, _≤_}
 use native.Mathlib.Numerals.{add-one}
 use native.Mathlib.Omega.{arith}
 use Rattle.table.specs.Layout.{keyIn}
@@ -10,12 +10,10 @@ use Rattle.table_least.proofs.Least.{least-none, least-more}
 use borrow.Author.Needs.{needs}
 use Rattle.table_least.proofs.least_within.Statement.{statement}
 use Rattle.table_least.proofs.least_within.Tie as tie
-use Rattle.table_least.proofs.least_within.Reads as reads
-use Rattle.table_least.proofs.least_within.Lts as lts
-use Rattle.table_least.proofs.lesser_of.Reads as lesser-of-reads
+use Rattle.table.specs.Contents.{keysIn}
 
 abbrev Inv-loop : tie.InvT-loop
-Inv-loop table many low high least₀ slot₀ least slot = (slot ≤ many) × (least ≡ leastWithin low high (contentsOf slot table .keys))
+Inv-loop table many low high least₀ slot₀ least slot = (slot ≤ many) × (least ≡ leastWithin low high (keysIn (contentsOf slot table)))
 
 abbrev μ-loop : tie.MeasureT-loop
 μ-loop table many low high least₀ slot₀ least slot = many - slot
@@ -57,7 +55,7 @@ loop-again c =
       search needs,
       c .lesser-of .ensures
           ∙ ap (λ (least : ℕ). lesser low high least (keyIn words (loop .slot))) (loop .inv .1)
-          ∙ sym (ap (λ (slot : ℕ). leastWithin low high (contentsOf slot words .keys)) (add-one (loop .slot)) ∙ least-more words (loop .slot) low high),
+          ∙ sym (ap (λ (slot : ℕ). leastWithin low high (keysIn (contentsOf slot words))) (add-one (loop .slot)) ∙ least-more words (loop .slot) low high),
     )
 
 returns : tie.Need-returns Inv-loop μ-loop
@@ -66,7 +64,7 @@ returns c =
     let loop = c .before .loop in
     let upto = loop .inv .0 in
     let whole : loop .slot ≡ start .args .many = omega (arith, c .loop-test .left) in
-    loop .inv .1 ∙ ap (λ (slot : ℕ). leastWithin (start .args .low) (start .args .high) (contentsOf slot (start .args .table .now) .keys)) whole
+    loop .inv .1 ∙ ap (λ (slot : ℕ). leastWithin (start .args .low) (start .args .high) (keysIn (contentsOf slot (start .args .table .now)))) whole
 
 pub least-within-spec : {M : Type 1} → statement M
 least-within-spec =

@@ -6,8 +6,6 @@ use Rattle.table_limits.proofs.Lengths.{slots-for-is, slots-for-none}
 use borrow.Author.Needs.{needs}
 use Rattle.table_limits.proofs.slots_for.Statement.{statement}
 use Rattle.table_limits.proofs.slots_for.Tie as tie
-use Rattle.table_limits.proofs.slots_for.Reads as reads
-use Rattle.table_limits.proofs.slots_for.Lts as lts
 
 add-if1 : tie.Need-add-if1
 add-if1 c = search needs
@@ -27,7 +25,7 @@ returns-3 c = sym (slots-for-none (c .before .before .before .args .words) (λ m
 returns-4 : tie.Need-returns-4
 returns-4 c =
     let words = c .before .before .before .args .words in
-    sym (slots-for-is words ((words - 3) / 6) (omega arith) (omega arith) (omega arith))
+    sym (slots-for-is words ((words - 3) / 8) (omega arith) (omega arith) (omega arith))
 
 pub slots-for-spec : {M : Type 1} → statement M
 slots-for-spec = tie.close (tie.spec add-if1 returns sub-rest returns-2 returns-3 returns-4)

@@ -15,11 +15,6 @@ use Rattle.table_prepare.proofs.Preparing.{room, many-weights, ranking-
 use borrow.Author.Needs.{needs}
 use Rattle.table_prepare.proofs.prepare.Statement.{statement}
 use Rattle.table_prepare.proofs.prepare.Tie as tie
-use Rattle.table_prepare.proofs.prepare.Reads as reads
-use Rattle.table_prepare.proofs.prepare.Lts as lts
-use Rattle.table_prepare.proofs.fill.Reads as fill-reads
-use Rattle.table_prepare.proofs.prioritize.Reads as prioritize-reads
-use Rattle.table_slots.proofs.place.Reads as place-reads
 
 -- the way back from the place where the priorities are made
 abbrev begun : tie.After-prioritize → tie.Start

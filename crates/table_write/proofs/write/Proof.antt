@@ -2,9 +2,6 @@
 use borrow.Author.Needs.{needs}
 use Rattle.table_write.proofs.write.Statement.{statement}
 use Rattle.table_write.proofs.write.Tie as tie
-use Rattle.table_write.proofs.write.Reads as reads
-use Rattle.table_write.proofs.write.Lts as lts
-use Rattle.table_write.proofs.write_within.Reads as write-within-reads
 
 slice-aggregate-write-within : tie.Need-slice-aggregate-write-within
 slice-aggregate-write-within c = search needs
@@ -32,7 +29,7 @@ slice-aggregate-write-within-8 c = search needs
 
 write-within-requires : tie.Need-write-within-requires
 write-within-requires c κs =
-    let pre = c .before .before .before .before .before .before .before .before .before .before .before .pre in
+    let pre = c .before .before .before .before .before .before .before .before .before .before .before .before .pre in
     let fit = pre .1 .3 in
     (pre .0, ((pre .1 .0, fit, pre .1 .1, pre .1 .2), ((fit, fit, fit, fit), (fit, fit, fit, fit, pre .1 .4))))
 

@@ -1,27 +1,24 @@
 -- `text_listing::put_block` meets its contract. Assumes nothing.
 use mathlib.Core.List.{List, _++_}
 use mathlib.Core.Path.{_≡_, sym, ap, ap₂, subst}
-use Prim.Native.Nat.{ℕ, _+_, _*_, _-_, _≤_}
+use Prim.Native.Nat.{ℕ, _+_, _-_, _≤_}
 use native.Mathlib.Omega.{arith}
 use lib.ListN.{length, take, drop, length-drop}
-use Rattle.image.specs.Layout.{blockBytes, nodeBytes}
+use Rattle.image.specs.Layout.{blockBytes}
+use Rattle.image.specs.Image.{nodesSpan}
+use Rattle.image_collect.proofs.Passing.{from-index}
 use Rattle.text_lines.specs.Lines.{blockLine}
 use Rattle.text.specs.Written.{Written}
 use Rattle.text.proofs.Pieces.{front-fits, next-fits, written-then}
 use Rattle.text_listing.specs.Shown.{heldIn, shownKeys, shownBlockLine, shownBlock}
-use Rattle.text_listing.proofs.Walking.{block-line-shown, part-nodes, from-index}
+use Rattle.text_listing.proofs.Walking.{block-line-shown, part-nodes}
 use borrow.Author.Needs.{needs}
 use Rattle.text_listing.proofs.put_block.Statement.{statement}
 use Rattle.text_listing.proofs.put_block.Tie as tie
-use Rattle.text_listing.proofs.put_block.Reads as reads
-use Rattle.text_listing.proofs.put_block.Lts as lts
-use Rattle.image_fields.proofs.get.Reads as get-reads
-use Rattle.text_lines.proofs.put_block_line.Reads as put-block-line-reads
-use Rattle.text_listing.proofs.put_keys.Reads as put-keys-reads
 
--- the part is a block's record and the node records after it
-long : (start : tie.Start) → length (start .args .part .now) ≡ blockBytes + nodeBytes * heldIn (start .args .part .now)
-long start = part-nodes (start .args .part .now) (start .pre .0)
+-- the part begins with a block's record and the node records after it
+long : (start : tie.Start) → blockBytes + nodesSpan (heldIn (start .args .part .now)) (drop blockBytes (start .args .part .now)) ≤ length (start .args .part .now)
+long start = omega (arith, part-nodes (start .args .part .now), start .pre .0)
 
 -- there is room for all lines
 room : (start : tie.Start)
@@ -77,7 +74,13 @@ put-keys-requires c κs =
     let start = c .before .before .before .before .before .before .before .before .before .before .before in
     let held = c .before .before .before .before .before .before .get3 in
     let wrote-line = wrote (c .before .before .before .before) in (
-      omega (arith, long start, ap (λ (n : ℕ). nodeBytes * n) (held .ensures), ap length (from-index blockBytes (start .args .part .now)), length-drop blockBytes (start .args .part .now)),
+      omega (
+        arith,
+        long start,
+        ap₂ nodesSpan (held .ensures) (from-index blockBytes (start .args .part .now)),
+        ap length (from-index blockBytes (start .args .part .now)),
+        length-drop blockBytes (start .args .part .now),
+      ),
       subst (λ (text : List ℕ). c .before .before .before .before .put-block-line .result + length text ≤ length (c .before .before .before .before .put-block-line .last .0)) (sym (nodes (c .before .before .before .before)))
           (next-fits wrote-line (shownKeys (heldIn (start .args .part .now)) (drop blockBytes (start .args .part .now))) (room start)),
     )

@@ -1,20 +1,18 @@
 -- `text_listing::put_blocks` meets its contract. The loop's invariant: the lines of the blocks from its index on are still to come.
 -- Assumes nothing.
 use mathlib.Core.List.{List, _++_}
-use mathlib.Core.Path.{_≡_, sym, ap, ap₂, _∙_, subst}
-use Prim.Native.Nat.{ℕ, _-_, _≤_}
+use mathlib.Core.Path.{_≡_, sym, ap, _∙_, subst}
+use Prim.Native.Nat.{ℕ, _+_, _-_, _≤_}
 use native.Mathlib.Omega.{arith}
 use lib.ListN.{length, take, drop}
 use borrow.Author.Needs.{needs}
+use Rattle.text.specs.Written.{Written}
 use Rattle.text.proofs.Ongoing.{Ongoing, ongoing-none, ongoing-all, ongoing-size, ongoing-fits, ongoing-next}
+use Rattle.image_collect.proofs.Passing.{from-index}
 use Rattle.text_listing.specs.Shown.{partBytes, shownBlock, shownBlocks}
-use Rattle.text_listing.proofs.Walking.{Coming, coming-all, endFrom, partFrom, blocksFrom, coming-end, coming-next, blocks-next, part-size}
+use Rattle.text_listing.proofs.Walking.{Coming, coming-all, endFrom, blocksFrom, part-inside, coming-end, coming-next, blocks-next}
 use Rattle.text_listing.proofs.put_blocks.Statement.{statement}
 use Rattle.text_listing.proofs.put_blocks.Tie as tie
-use Rattle.text_listing.proofs.put_blocks.Reads as reads
-use Rattle.text_listing.proofs.put_blocks.Lts as lts
-use Rattle.text_listing.proofs.block_end.Reads as block-end-reads
-use Rattle.text_listing.proofs.put_block.Reads as put-block-reads
 
 abbrev Inv-loop : tie.InvT-loop
 Inv-loop records many output₀ at left₀ start₀ to₀ output left start to = Coming records left start × Ongoing output₀ at (shownBlocks many records) (blocksFrom records start left) output to
@@ -29,26 +27,28 @@ ends c = c .block-end .ensures
 inside : (c : tie.After-block-end Inv-loop μ-loop) → c .block-end .result ≤ length (c .before .before .before .before .before .args .records .now)
 inside c = omega (arith, ends c, coming-end (c .before .before .loop .inv .0) (c .before .loop-test .taken))
 
--- its bytes, as they are handed on
-part : tie.After-block-end Inv-loop μ-loop → List ℕ
-part c = take (c .block-end .result - c .before .before .loop .start) (drop (c .before .before .loop .start) (c .before .before .before .before .before .args .records .now))
+-- the bytes from its record on, as they are handed on
+abbrev begun : tie.At-loop Inv-loop μ-loop → tie.Start Inv-loop μ-loop
+begun p = p .before .before .before
 
-part-is : (c : tie.After-block-end Inv-loop μ-loop) → part c ≡ partFrom (c .before .before .before .before .before .args .records .now) (c .before .before .loop .start)
-unfolding part
-part-is c = ap (λ (end : ℕ). take (end - c .before .before .loop .start) (drop (c .before .before .loop .start) (c .before .before .before .before .before .args .records .now))) (ends c)
+abbrev here : tie.At-loop Inv-loop μ-loop → List ℕ
+here p = drop (p .loop .start) (begun p .args .records .now)
+
+handed-on : (p : tie.At-loop Inv-loop μ-loop) → take (length (begun p .args .records .now) - p .loop .start) (here p) ≡ here p
+handed-on p = from-index (p .loop .start) (begun p .args .records .now)
 
 -- its lines, then those of the blocks after it, are still to come
 turn : (c : tie.After-block-end Inv-loop μ-loop)
-    → Ongoing (c .before .before .before .before .before .args .output .now) (c .before .before .before .before .before .args .at) (shownBlocks (c .before .before .before .before .before .args .many) (c .before .before .before .before .before .args .records .now))
-    (shownBlock (part c) ++ blocksFrom (c .before .before .before .before .before .args .records .now) (c .block-end .result) (c .before .before .loop .left - 1))
+    → Ongoing (begun (c .before .before) .args .output .now) (begun (c .before .before) .args .at) (shownBlocks (begun (c .before .before) .args .many) (begun (c .before .before) .args .records .now))
+    (shownBlock (here (c .before .before)) ++ blocksFrom (begun (c .before .before) .args .records .now) (c .block-end .result) (c .before .before .loop .left - 1))
     (c .before .before .loop .output) (c .before .before .loop .to)
 turn c =
-    let args = c .before .before .before .before .before .args in
-    let loop = c .before .before .loop in
-    subst (λ (rest : List ℕ). Ongoing (args .output .now) (args .at) (shownBlocks (args .many) (args .records .now)) rest (loop .output) (loop .to))
-    (blocks-next (loop .inv .0) (c .before .loop-test .taken)
-    ∙ ap₂ (λ (records : List ℕ) (end : ℕ). shownBlock records ++ blocksFrom (args .records .now) end (loop .left - 1)) (sym (part-is c)) (sym (ends c)))
-    (loop .inv .1)
+    let p = c .before .before in
+    let args = begun p .args in
+    subst (λ (rest : List ℕ). Ongoing (args .output .now) (args .at) (shownBlocks (args .many) (args .records .now)) rest (p .loop .output) (p .loop .to))
+    (blocks-next (p .loop .inv .0) (c .before .loop-test .taken)
+    ∙ ap (λ (end : ℕ). shownBlock (here p) ++ blocksFrom (args .records .now) end (p .loop .left - 1)) (sym (ends c)))
+    (p .loop .inv .1)
 
 loop-holds : tie.Need-loop-holds Inv-loop μ-loop
 loop-holds c = (coming-all _ _ (c .before .before .pre .0), ongoing-none _ _ _)
@@ -57,22 +57,22 @@ block-end-requires : tie.Need-block-end-requires Inv-loop μ-loop
 block-end-requires c κs = coming-end (c .before .loop .inv .0) (c .loop-test .taken)
 
 sub-put-block : tie.Need-sub-put-block Inv-loop μ-loop
-sub-put-block c = omega (arith, ends c)
+sub-put-block c = c .before .before .loop .inv .0 .reach
 
 part-put-block-start : tie.Need-part-put-block-start Inv-loop μ-loop
-part-put-block-start c = omega (arith, ends c)
+part-put-block-start c = c .before .before .loop .inv .0 .reach
 
 part-put-block-end : tie.Need-part-put-block-end Inv-loop μ-loop
-part-put-block-end c = inside c
+part-put-block-end c = search needs
 
 put-block-requires : tie.Need-put-block-requires Inv-loop μ-loop
-unfolding part
 put-block-requires c κs =
     let at-end = c .before .before in
-    let start = at-end .before .before .before .before .before in
-    let loop = at-end .before .before .loop in (
-      ap length (part-is at-end) ∙ part-size (loop .inv .0) (at-end .before .loop-test .taken) ∙ ap partBytes (sym (part-is at-end)),
-      ongoing-fits (start .pre .1) (shownBlock (part at-end)) (blocksFrom (start .args .records .now) (at-end .block-end .result) (loop .left - 1)) (turn at-end),
+    let p = at-end .before .before in
+    let loop = p .loop in (
+      omega (arith, ap length (handed-on p), ap partBytes (handed-on p), part-inside (loop .inv .0) (at-end .before .loop-test .taken)),
+      subst (λ (l : List ℕ). loop .to + length (shownBlock l) ≤ length (loop .output)) (sym (handed-on p))
+          (ongoing-fits (begun p .pre .1) (shownBlock (here p)) (blocksFrom (begun p .args .records .now) (at-end .block-end .result) (loop .left - 1)) (turn at-end)),
     )
 
 sub-left : tie.Need-sub-left Inv-loop μ-loop
@@ -82,13 +82,15 @@ loop-less : tie.Need-loop-less Inv-loop μ-loop
 loop-less c = search needs
 
 loop-again : tie.Need-loop-again Inv-loop μ-loop
-unfolding part
 loop-again c =
     let at-end = c .before .before .before .before .before in
-    let start = at-end .before .before .before .before .before in
-    let loop = at-end .before .before .loop in (
+    let p = at-end .before .before in
+    let start = begun p in
+    let loop = p .loop in
+    let call = c .before .before .put-block in (
       subst (Coming (start .args .records .now) (loop .left - 1)) (sym (ends at-end)) (coming-next (loop .inv .0) (at-end .before .loop-test .taken)),
-      ongoing-next (start .pre .1) (shownBlock (part at-end)) (blocksFrom (start .args .records .now) (at-end .block-end .result) (loop .left - 1)) (turn at-end) (c .before .before .put-block .ensures),
+      ongoing-next (start .pre .1) (shownBlock (here p)) (blocksFrom (start .args .records .now) (at-end .block-end .result) (loop .left - 1)) (turn at-end)
+          (subst (λ (l : List ℕ). Written (loop .output) (loop .to) (shownBlock l) (call .last .1 .0) (call .result)) (handed-on p) (call .ensures)),
     )
 
 same-length : tie.Need-same-length Inv-loop μ-loop

@@ -10,15 +10,10 @@ use Rattle.image.specs.Image.{fieldAt}
 use Rattle.text.specs.Written.{Written}
 use Rattle.text.proofs.Pieces.{front-fits, next-fits, written-then}
 use Rattle.text_listing.specs.Shown.{shownBlocks, shownHeader, shown, HasBlocks}
-use Rattle.text_listing.proofs.Walking.{from-index}
+use Rattle.image_collect.proofs.Passing.{from-index}
 use borrow.Author.Needs.{needs}
 use Rattle.text_listing.proofs.put_records.Statement.{statement}
 use Rattle.text_listing.proofs.put_records.Tie as tie
-use Rattle.text_listing.proofs.put_records.Reads as reads
-use Rattle.text_listing.proofs.put_records.Lts as lts
-use Rattle.image_fields.proofs.get.Reads as get-reads
-use Rattle.text_listing.proofs.put_blocks.Reads as put-blocks-reads
-use Rattle.text_listing.proofs.put_header.Reads as put-header-reads
 
 -- the lines of the blocks
 blocks : tie.Start → List ℕ

@@ -4,22 +4,19 @@ use mathlib.Core.Path.{_≡_, ap, ap₂, _∙_}
 use Prim.Native.Nat.{ℕ, _+_, _*_, _-_, _≤_}
 use native.Mathlib.Omega.{arith}
 use lib.ListN.{length, take, drop, length-append, length-drop}
-use Rattle.image.specs.Layout.{blockBytes, nodeBytes}
+use Rattle.image.specs.Layout.{blockBytes}
+use Rattle.image.specs.Image.{nodesSpan}
+use Rattle.image_collect.proofs.Passing.{from-index}
 use Rattle.text_lines.proofs.Lengths.{block-line-most}
 use Rattle.text_listing.specs.Shown.{heldIn, shownKeys, shownBlockLine, shownBlock, mostGrowth}
-use Rattle.text_listing.proofs.Walking.{block-line-shown, part-nodes, from-index}
+use Rattle.text_listing.proofs.Walking.{block-line-shown, part-nodes}
 use borrow.Author.Needs.{needs}
 use Rattle.text_listing.proofs.lengths.block.Statement.{statement}
 use Rattle.text_listing.proofs.lengths.block.Tie as tie
-use Rattle.text_listing.proofs.lengths.block.Reads as reads
-use Rattle.text_listing.proofs.lengths.block.Lts as lts
-use Rattle.image_fields.proofs.get.Reads as get-reads
-use Rattle.text_lines.proofs.block_length.Reads as block-length-reads
-use Rattle.text_listing.proofs.lengths.keys.Reads as keys-reads
 
--- the part is a block's record and the node records after it
-long : (start : tie.Start) → length (start .args .part .now) ≡ blockBytes + nodeBytes * heldIn (start .args .part .now)
-long start = part-nodes (start .args .part .now) (start .pre .0)
+-- the part begins with a block's record and the node records after it
+long : (start : tie.Start) → blockBytes + nodesSpan (heldIn (start .args .part .now)) (drop blockBytes (start .args .part .now)) ≤ length (start .args .part .now)
+long start = omega (arith, part-nodes (start .args .part .now), start .pre .0)
 
 -- what is read of the number of keys
 read : (c : tie.After-get3) → c .get3 .result ≡ heldIn (c .before .before .before .before .args .part .now)
@@ -30,8 +27,12 @@ read c = c .get3 .ensures
 abbrev nodes : tie.Start → List ℕ
 nodes start = take (length (start .args .part .now) - blockBytes) (drop blockBytes (start .args .part .now))
 
-nodes-long : (start : tie.Start) → length (nodes start) ≡ nodeBytes * heldIn (start .args .part .now)
-nodes-long start = ap length (from-index blockBytes (start .args .part .now)) ∙ omega (arith, length-drop blockBytes (start .args .part .now), long start)
+nodes-are : (start : tie.Start) → nodes start ≡ drop blockBytes (start .args .part .now)
+nodes-are start = from-index blockBytes (start .args .part .now)
+
+span-is : (c : tie.After-get3)
+    → nodesSpan (c .get3 .result) (nodes (c .before .before .before .before)) ≡ nodesSpan (heldIn (c .before .before .before .before .args .part .now)) (drop blockBytes (c .before .before .before .before .args .part .now))
+span-is c = ap₂ nodesSpan (read c) (nodes-are (c .before .before .before .before))
 
 -- the length of the block's line
 line : (c : tie.After-block-length) → c .block-length .result ≡ length (shownBlockLine (c .before .before .before .before .before .args .part .now))
@@ -46,8 +47,8 @@ line-most c =
 keys-lines : (c : tie.After-keys) → c .keys .result ≡ length (shownKeys (heldIn (c .before .before .before .before .before .before .before .args .part .now)) (drop blockBytes (c .before .before .before .before .before .before .before .args .part .now)))
 keys-lines c = c .keys .ensures .0 ∙ ap₂ (λ (n : ℕ) (bytes : List ℕ). length (shownKeys n bytes)) (read (c .before .before .before)) (from-index blockBytes (c .before .before .before .before .before .before .before .args .part .now))
 
-keys-most : (c : tie.After-keys) → c .keys .result ≤ mostGrowth * (nodeBytes * heldIn (c .before .before .before .before .before .before .before .args .part .now))
-keys-most c = omega (arith, c .keys .ensures .1, read (c .before .before .before))
+keys-most : (c : tie.After-keys) → c .keys .result ≤ mostGrowth * nodesSpan (heldIn (c .before .before .before .before .before .before .before .args .part .now)) (drop blockBytes (c .before .before .before .before .before .before .before .args .part .now))
+keys-most c = omega (arith, c .keys .ensures .1, span-is (c .before .before .before))
 
 get-requires : tie.Need-get-requires
 get-requires c κs = omega (arith, long (c .before))
@@ -73,7 +74,8 @@ part-keys-end c = search needs
 keys-requires : tie.Need-keys-requires
 keys-requires c κs =
     let start = c .before .before .before .before .before .before in
-    (omega (arith, nodes-long start, read (c .before .before)), omega (arith, nodes-long start, long start, start .pre .1))
+    let size = ap length (nodes-are start) ∙ length-drop blockBytes (start .args .part .now) in
+    (omega (arith, size, span-is (c .before .before), long start), omega (arith, size, start .pre .1))
 
 add-result : tie.Need-add-result
 add-result c = omega (arith, line-most (c .before .before), keys-most c, long (c .before .before .before .before .before .before .before), c .before .before .before .before .before .before .before .pre .1)
@@ -83,7 +85,7 @@ unfolding shownBlock
 returns c =
     let part = c .before .before .before .before .before .before .before .args .part .now in (
       omega (arith, line (c .before .before), keys-lines c, length-append (shownBlockLine part) (shownKeys (heldIn part) (drop blockBytes part))),
-      omega (arith, line-most (c .before .before), keys-most c, long (c .before .before .before .before .before .before .before)),
+      omega (arith, line-most (c .before .before), keys-most c, part-nodes part),
     )
 
 pub block-spec : {M : Type 1} → statement M

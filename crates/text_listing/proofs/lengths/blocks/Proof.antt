@@ -1,20 +1,17 @@
 -- `text_listing::lengths::blocks` meets its contract. The loop's invariant: the lines of the blocks before its index are measured.
 -- Assumes nothing.
 use mathlib.Core.List.{List, _++_}
-use mathlib.Core.Path.{_≡_, sym, ap, ap₂, _∙_, subst}
-use Prim.Native.Nat.{ℕ, _+_, _*_, _-_, _≤_}
+use mathlib.Core.Path.{_≡_, sym, ap, _∙_, subst}
+use Prim.Native.Nat.{ℕ, _*_, _-_, _≤_}
 use native.Mathlib.Omega.{arith}
-use lib.ListN.{length, take, drop}
+use lib.ListN.{length, take, drop, length-drop}
 use borrow.Author.Needs.{needs}
+use Rattle.image_collect.proofs.Passing.{from-index}
 use Rattle.text_listing.specs.Shown.{partBytes, shownBlock, shownBlocks, mostGrowth}
-use Rattle.text_listing.proofs.Walking.{Coming, coming-all, endFrom, partFrom, blocksFrom, coming-end, coming-next, blocks-next, part-long, part-size}
+use Rattle.text_listing.proofs.Walking.{Coming, coming-all, endFrom, blocksFrom, part-inside, coming-end, coming-next, blocks-next}
 use Rattle.text_listing.proofs.Measuring.{Measured, measured-none, measured-next, measured-all}
 use Rattle.text_listing.proofs.lengths.blocks.Statement.{statement}
 use Rattle.text_listing.proofs.lengths.blocks.Tie as tie
-use Rattle.text_listing.proofs.lengths.blocks.Reads as reads
-use Rattle.text_listing.proofs.lengths.blocks.Lts as lts
-use Rattle.text_listing.proofs.block_end.Reads as block-end-reads
-use Rattle.text_listing.proofs.lengths.block.Reads as block-reads
 
 abbrev Inv-loop : tie.InvT-loop
 Inv-loop records many left₀ start₀ total₀ left start total = Coming records left start × Measured (shownBlocks many records) (blocksFrom records start left) total × (total ≤ mostGrowth * start)
@@ -29,17 +26,19 @@ ends c = c .block-end .ensures
 inside : (c : tie.After-block-end Inv-loop μ-loop) → c .block-end .result ≤ length (c .before .before .before .before .args .records .now)
 inside c = omega (arith, ends c, coming-end (c .before .before .loop .inv .0) (c .before .loop-test .taken))
 
--- its bytes, as they are handed on
-part : tie.After-block-end Inv-loop μ-loop → List ℕ
-part c = take (c .block-end .result - c .before .before .loop .start) (drop (c .before .before .loop .start) (c .before .before .before .before .args .records .now))
+-- the bytes from its record on, as they are handed on
+abbrev here : tie.At-loop Inv-loop μ-loop → List ℕ
+here p = drop (p .loop .start) (p .before .before .args .records .now)
 
-part-is : (c : tie.After-block-end Inv-loop μ-loop) → part c ≡ partFrom (c .before .before .before .before .args .records .now) (c .before .before .loop .start)
-unfolding part
-part-is c = ap (λ (end : ℕ). take (end - c .before .before .loop .start) (drop (c .before .before .loop .start) (c .before .before .before .before .args .records .now))) (ends c)
+handed-on : (p : tie.At-loop Inv-loop μ-loop) → take (length (p .before .before .args .records .now) - p .loop .start) (here p) ≡ here p
+handed-on p = from-index (p .loop .start) (p .before .before .args .records .now)
 
--- they reach from its start to its end
-part-reach : (c : tie.After-block-end Inv-loop μ-loop) → c .before .before .loop .start + length (part c) ≡ c .block-end .result
-part-reach c = omega (arith, ends c, ap length (part-is c), part-long (c .before .before .loop .inv .0) (c .before .loop-test .taken))
+-- the length of its lines
+lines-are : (c : tie.After-block Inv-loop μ-loop) → c .block .result ≡ length (shownBlock (here (c .before .before .before .before)))
+lines-are c = c .block .ensures .0 ∙ ap (λ (l : List ℕ). length (shownBlock l)) (handed-on (c .before .before .before .before))
+
+lines-most : (c : tie.After-block Inv-loop μ-loop) → c .block .result ≤ mostGrowth * partBytes (here (c .before .before .before .before))
+lines-most c = omega (arith, c .block .ensures .1, ap partBytes (handed-on (c .before .before .before .before)))
 
 loop-holds : tie.Need-loop-holds Inv-loop μ-loop
 loop-holds c = (coming-all _ _ (c .before .pre .0), measured-none _, omega arith)
@@ -48,27 +47,28 @@ block-end-requires : tie.Need-block-end-requires Inv-loop μ-loop
 block-end-requires c κs = coming-end (c .before .loop .inv .0) (c .loop-test .taken)
 
 sub-block : tie.Need-sub-block Inv-loop μ-loop
-sub-block c = omega (arith, ends c)
+sub-block c = c .before .before .loop .inv .0 .reach
 
 part-block-start : tie.Need-part-block-start Inv-loop μ-loop
-part-block-start c = omega (arith, ends c)
+part-block-start c = c .before .before .loop .inv .0 .reach
 
 part-block-end : tie.Need-part-block-end Inv-loop μ-loop
-part-block-end c = inside c
+part-block-end c = search needs
 
 block-requires : tie.Need-block-requires Inv-loop μ-loop
-unfolding part
 block-requires c κs =
-    let at-end = c .before in (
-      ap length (part-is at-end) ∙ part-size (at-end .before .before .loop .inv .0) (at-end .before .loop-test .taken) ∙ ap partBytes (sym (part-is at-end)),
-      omega (arith, part-reach at-end, inside at-end, at-end .before .before .before .before .pre .1),
+    let at-end = c .before in
+    let p = at-end .before .before in
+    let size = ap length (handed-on p) in (
+      omega (arith, size, ap partBytes (handed-on p), part-inside (p .loop .inv .0) (at-end .before .loop-test .taken)),
+      omega (arith, size, length-drop (p .loop .start) (p .before .before .args .records .now), p .before .before .pre .1),
     )
 
 add-total : tie.Need-add-total Inv-loop μ-loop
-unfolding part
 add-total c =
     let at-end = c .before .before in
-    omega (arith, part-reach at-end, inside at-end, at-end .before .before .before .before .pre .1, at-end .before .before .loop .inv .2, c .block .ensures .1)
+    let p = at-end .before .before in
+    omega (arith, lines-most c, ends at-end, inside at-end, p .loop .inv .2, p .before .before .pre .1)
 
 sub-left : tie.Need-sub-left Inv-loop μ-loop
 sub-left c = search needs
@@ -77,17 +77,17 @@ loop-less : tie.Need-loop-less Inv-loop μ-loop
 loop-less c = search needs
 
 loop-again : tie.Need-loop-again Inv-loop μ-loop
-unfolding part
 loop-again c =
     let at-end = c .before .before in
     let records = at-end .before .before .before .before .args .records .now in
-    let loop = at-end .before .before .loop in (
+    let p = at-end .before .before in
+    let loop = p .loop in (
       subst (Coming records (loop .left - 1)) (sym (ends at-end)) (coming-next (loop .inv .0) (at-end .before .loop-test .taken)),
-      measured-next (loop .inv .1) (shownBlock (part at-end)) (blocksFrom records (at-end .block-end .result) (loop .left - 1))
+      measured-next (loop .inv .1) (shownBlock (here p)) (blocksFrom records (at-end .block-end .result) (loop .left - 1))
           (blocks-next (loop .inv .0) (at-end .before .loop-test .taken)
-          ∙ ap₂ (λ (bytes : List ℕ) (end : ℕ). shownBlock bytes ++ blocksFrom records end (loop .left - 1)) (sym (part-is at-end)) (sym (ends at-end)))
-          (c .block .result) (c .block .ensures .0),
-      omega (arith, part-reach at-end, loop .inv .2, c .block .ensures .1),
+          ∙ ap (λ (end : ℕ). shownBlock (here p) ++ blocksFrom records end (loop .left - 1)) (sym (ends at-end)))
+          (c .block .result) (lines-are c),
+      omega (arith, lines-most c, ends at-end, loop .inv .2),
     )
 
 returns : tie.Need-returns Inv-loop μ-loop

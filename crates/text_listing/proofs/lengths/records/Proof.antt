@@ -8,15 +8,10 @@ use Rattle.treap.specs.Image.{countBytes}
 use Rattle.image.specs.Layout.{headerBytes, blocksAt}
 use Rattle.image.specs.Image.{fieldAt}
 use Rattle.text_listing.specs.Shown.{shownBlocks, shownHeader, shown, HasBlocks}
-use Rattle.text_listing.proofs.Walking.{from-index}
+use Rattle.image_collect.proofs.Passing.{from-index}
 use borrow.Author.Needs.{needs}
 use Rattle.text_listing.proofs.lengths.records.Statement.{statement}
 use Rattle.text_listing.proofs.lengths.records.Tie as tie
-use Rattle.text_listing.proofs.lengths.records.Reads as reads
-use Rattle.text_listing.proofs.lengths.records.Lts as lts
-use Rattle.image_fields.proofs.get.Reads as get-reads
-use Rattle.text_listing.proofs.lengths.blocks.Reads as blocks-reads
-use Rattle.text_listing.proofs.lengths.header.Reads as header-reads
 
 -- what is handed on is the records of the blocks
 rest-long : (start : tie.Start)

@@ -1,0 +1,2 @@
+-- Laws of integers.
+mod Distance
