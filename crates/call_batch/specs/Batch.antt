@@ -5,7 +5,7 @@ use lib.ListN.{getD}
 use Rattle.table.specs.Contents.{keysIn}
 use Rattle.priority.specs.Priority.{priorityOf}
 use Rattle.treap.specs.Blocks.{blocksMetByAll}
-use Rattle.call_replies.specs.Replies.{Reply, lowest, unlessRefused}
+use Rattle.call_replies.specs.Replies.{Reply, firstThatApplies, unlessRefused}
 use Rattle.call_meaning.specs.Reasons.{wrongLength, notRising, notSound, shown}
 use Rattle.call_meaning.specs.Calls.{lookupReply}
 use Rattle.call_batch.specs.declared.Question.{Question}
@@ -16,7 +16,7 @@ keysOf questions = map (λ q. q .key) questions
 
 -- "Errors: 5 also means a sheet that does not rise or has a zero; the checks are 1, 5, 7".
 unfoldable pub batchRefusal : List ℕ → List Question → ℕ
-batchRefusal words questions = lowest (wrongLength words ∷ notRising (keysOf questions) ∷ notSound words ∷ [])
+batchRefusal words questions = firstThatApplies (wrongLength words ∷ notRising (keysOf questions) ∷ notSound words ∷ [])
 
 -- "Each line says what a lookup on its own says": held, one or zero, and rank are the first two numbers of a lookup's reply.
 unfoldable pub heldBy : List ℕ → ℕ → ℕ

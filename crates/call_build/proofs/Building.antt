@@ -1,5 +1,5 @@
 -- What the tests of a build say of its reply and of the words after it. Assumes nothing.
-use mathlib.Core.Bool.{Bool, true, false, _&&_}
+use mathlib.Core.Bool.{true, false}
 use mathlib.Core.List.{List}
 use mathlib.Core.Logic.{_≢_}
 use mathlib.Core.Path.{_≡_, ap, _∙_}
@@ -8,10 +8,8 @@ use native.Mathlib.Omega.{arith}
 use lib.Dec.{eqb, ltb}
 use lib.IntN.{ℤ}
 use lib.ListN.{length}
-use borrow.Author.Tests.{ne-eqb, eqb-true, lt-ltb, le-ltb}
-use Rattle.lists.specs.Lists.{every}
-use Rattle.lists.proofs.Tests.{and-left, and-right}
-use Rattle.measure.specs.Measure.{isMeasure, measuresBeside}
+use borrow.Author.Tests.{ne-eqb, lt-ltb, le-ltb}
+use Rattle.measure.specs.Measure.{measuresBeside, areMeasured}
 use Rattle.table.specs.Layout.{mostSlots}
 use Rattle.table.specs.Contents.{Contents, tableOrder, newOrder, risingKeys, entriesWith}
 use Rattle.table.specs.Table.{fresh}
@@ -25,20 +23,6 @@ use Rattle.call_replies.specs.declared.Built.the-variants.{Done, Refused}
 use Rattle.call_meaning.specs.Reasons.{wrongLength, wrongOrder, notRising, wrongMeasures, tooManyKeys}
 use Rattle.call_meaning.specs.Calls.{rewritten, buildRefusal, buildReply, buildAfter}
 use Rattle.table_decode.proofs.RisingKeys.{rising-says}
-
--- Whether lengths and corrections are one of each for each of so many keys, and all of them measures within the rules.
-abbrev pub areMeasured : ℕ → List ℕ → List ℤ → Bool
-areMeasured n lengths corrections =
-    eqb (length lengths) n && (eqb (length corrections) n && every isMeasure (measuresBeside lengths corrections))
-
-pub measured-says : (n : ℕ) (lengths : List ℕ) (corrections : List ℤ) → areMeasured n lengths corrections ≡ true
-    → (length lengths ≡ n) × (length corrections ≡ length lengths) × (every isMeasure (measuresBeside lengths corrections) ≡ true)
-measured-says n lengths corrections h =
-    let right = every isMeasure (measuresBeside lengths corrections) in
-    let rest = and-right (eqb (length lengths) n) (eqb (length corrections) n && right) h in
-    let long = eqb-true (length lengths) n (and-left (eqb (length lengths) n) (eqb (length corrections) n && right) h) in
-    let also = eqb-true (length corrections) n (and-left (eqb (length corrections) n) right rest) in
-    (long, omega arith, and-right (eqb (length corrections) n) right rest)
 
 module _ (words : List ℕ) (order : ℕ) (list lengths : List ℕ) (corrections : List ℤ) where
   -- What a build that answers so and leaves these words meets.

@@ -1,11 +1,10 @@
 // Making a table of any words: the blank one of an order, or that of an order and a list of keys with their measures.
 ghost use mathlib.Core.Path.{_≡_};
-ghost use mathlib.Core.Bool.{true, _&&_};
+ghost use mathlib.Core.Bool.{true};
 ghost use Prim.Native.Nat.{_<_, _≤_};
-ghost use lib.Dec.{eqb};
 ghost use lib.ListN.{length, replicate};
 ghost use Rattle.lists.specs.Lists.{every};
-ghost use Rattle.measure.specs.Measure.{isMeasure, measuresBeside};
+ghost use Rattle.measure.specs.Measure.{isMeasure, measuresBeside, areMeasured};
 ghost use Rattle.priority.specs.Priority.{HoldsConstants};
 ghost use Rattle.table.specs.Layout.{mostSlots, tableWords};
 ghost use Rattle.table.specs.Contents.{entriesWith};
@@ -46,7 +45,7 @@ pub fn set_up(table: &mut [u64], order: u64) -> SetUp
 
 // Whether lengths and corrections are one of each for each of `n` keys, and all of them measures within the rules.
 fn are_measured(n: usize, lengths: &[u64], corrections: &[i32]) -> bool
-    ensures { λ r. ⌜ r ≡ (eqb (length (now (lengths .entry))) n && (eqb (length (now (corrections .entry))) n && every isMeasure (measuresBeside (now (lengths .entry)) (now (corrections .entry))))) ⌝ }
+    ensures { λ r. ⌜ r ≡ areMeasured n (now (lengths .entry)) (now (corrections .entry)) ⌝ }
 {
     if lengths.len() != n {
         return false;

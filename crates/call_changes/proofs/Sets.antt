@@ -3,7 +3,7 @@ use mathlib.Core.Bool.{true, false, not}
 use mathlib.Core.List.{List, [], _∷_, Permᴰ·symm}
 use mathlib.Core.Logic.{_≢_}
 use mathlib.Core.Path.{_≡_, sym, ap, _∙_, subst}
-use Prim.Native.Nat.{ℕ, suc, _<_, _≤_}
+use Prim.Native.Nat.{ℕ, suc, _<_}
 use native.Mathlib.Omega.{arith}
 use lib.Dec.{eqb, ltb}
 use lib.ListN.{length}
@@ -15,7 +15,7 @@ use Rattle.lists.proofs.Membership.{eqb-same}
 use Rattle.lists.proofs.Pairwise.{pairwise-keep}
 use Rattle.lists.proofs.Sorting.{all-permuted, length-permuted, insertBy-permutes}
 use Rattle.measure.specs.Measure.{isMeasure}
-use Rattle.table.specs.Contents.{Entry, Contents, entryKeys, keysIn, keyBelow, IsKey, Valid}
+use Rattle.table.specs.Contents.{Entry, Contents, entryKeys, keysIn, keyBelow, IsKey, Valid, rightMeasure}
 use Rattle.call_sets.specs.Sets.{joined, without}
 use Rattle.call_sets.proofs.Members.{joined-keys, joined-members, joined-right, without-keys, left-right}
 
@@ -51,15 +51,11 @@ module _ (entry : Entry) where
             (all-permuted IsKey (Permᴰ·symm (insertBy-permutes ltb (entry .key) (keysIn c))) (right, valid .keys-right));
         keys-rise = subst Rising (sym (joined-keys entry (c .entries))) (inserted-rising (entry .key) (keysIn c) (valid .keys-rise) absent);
         keys-fit = omega (arith, ap length (joined-keys entry (c .entries)), length-permuted (insertBy-permutes ltb (entry .key) (keysIn c)));
-        measures-right = joined-right (λ e. isMeasure (e .measure) ≡ true) entry (c .entries) measured (valid .measures-right);
+        measures-right = joined-right (λ e. rightMeasure e ≡ true) entry (c .entries) measured (valid .measures-right);
       }
 
 -- ---- a key less
 module _ (key : ℕ) where
-  pub without-fewer : (es : List Entry) → length (without key es) ≤ length es
-  unfolding without
-  without-fewer es = length-keep (λ e. not (eqb (e .key) key)) es
-
   pub without-valid : (many : ℕ) (c : Contents) → Valid many c → Valid many (record { order = c .order; entries = without key (c .entries) })
   without-valid many c valid =
       record {
@@ -67,5 +63,5 @@ module _ (key : ℕ) where
         keys-right = subst (All IsKey) (sym (without-keys key (c .entries))) (all-keep IsKey (λ k. not (eqb k key)) (keysIn c) (valid .keys-right));
         keys-rise = subst Rising (sym (without-keys key (c .entries))) (pairwise-keep _<_ (λ k. not (eqb k key)) (keysIn c) (valid .keys-rise));
         keys-fit = omega (arith, valid .keys-fit, ap length (without-keys key (c .entries)), length-keep (λ k. not (eqb k key)) (keysIn c));
-        measures-right = left-right (λ e. isMeasure (e .measure) ≡ true) key (c .entries) (valid .measures-right);
+        measures-right = left-right (λ e. rightMeasure e ≡ true) key (c .entries) (valid .measures-right);
       }

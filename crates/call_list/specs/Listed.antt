@@ -10,7 +10,7 @@ use Rattle.image.specs.Image.{readImage}
 use Rattle.text.specs.Ascii.{ascii}
 use Rattle.text.specs.Digits.{decimal}
 use Rattle.text_listing.specs.Listing.{listingOf}
-use Rattle.call_replies.specs.Replies.{Reply, lowest, unlessRefused}
+use Rattle.call_replies.specs.Replies.{Reply, firstThatApplies, unlessRefused}
 use Rattle.call_meaning.specs.Reasons.{notAnImage, outputTooShort}
 
 -- The text of the image that the bytes are.
@@ -19,7 +19,7 @@ textOf bytes = listingOf (readImage bytes)
 
 -- Of the input that it is no image, and of the output that it is too short: 6, 11.
 unfoldable pub listRefusal : List ℕ → List ℕ → ℕ
-listRefusal bytes output = lowest (notAnImage bytes ∷ outputTooShort (length output) (length (textOf bytes)) ∷ [])
+listRefusal bytes output = firstThatApplies (notAnImage bytes ∷ outputTooShort (length output) (length (textOf bytes)) ∷ [])
 
 -- The text's length.
 unfoldable pub listReply : List ℕ → List ℕ → Reply
@@ -44,7 +44,7 @@ programBytes = 50015
 -- Why the image is turned down: 6, or 10 where it has more keys than the program has slots; zero where it is not.
 unfoldable pub programRefusal : List ℕ → ℕ
 programRefusal bytes =
-    lowest (notAnImage bytes ∷ (record { number = 10; applies = ltb programSlots (length (keysIn (readImage bytes))) }) ∷ [])
+    firstThatApplies (notAnImage bytes ∷ (record { number = 10; applies = ltb programSlots (length (keysIn (readImage bytes))) }) ∷ [])
 
 -- "A refusal prints `refused`, a space and its number." "Every line the program prints ends in a line feed."
 unfoldable pub refusedText : ℕ → List ℕ

@@ -17,6 +17,7 @@ ghost use Rattle.call_changes.specs.Known.{Known};
 ghost use Rattle.call_changes.specs.Done.{IsLoadKey, withDone};
 use call_replies::Loaded;
 use call_replies::SetUp;
+use measure::UNMEASURED;
 use priority::CONSTANT_COUNT;
 
 // The keys are 1 to this.
@@ -29,9 +30,6 @@ const CHOICE_DIVISOR: u64 = 4611686018427387904;
 
 // The choice of a delete; one below it is an insert, one above it a lookup.
 const DELETE: u64 = 2;
-
-// The tag of a key that is not measured.
-const UNMEASURED: u64 = 0;
 
 // Do the operation that a state chooses, on a sound table of `many` slots with its keys at the start of `keys` and the tags
 // of their measures at the start of `tags`. A refused one changes nothing; what it answers is not reported.

@@ -16,10 +16,10 @@ use Rattle.call_sets.specs.Sets.{joined, without}
 use Rattle.call_sets.specs.Load.{loaded}
 use Rattle.table_limits.specs.Lengths.{slotsFor}
 use Rattle.intervals.specs.Intervals.{within}
-use Rattle.call_replies.specs.Replies.{Reply, lowest, unlessRefused}
+use Rattle.call_replies.specs.Replies.{Reply, firstThatApplies, unlessRefused}
 use Rattle.call_meaning.specs.Reasons.{wrongLength, wrongOrder, zeroKey, lowAboveHigh, notRising, notAnImage, notSound, keyHeld, keyAbsent, tooManyKeys, outputTooShort, wrongMeasure, wrongMeasures, shown}
 
--- The table of an order and keys, of so many slots as the words have.
+-- The table of an order and a set, of so many slots as the words have.
 unfoldable pub rewritten : List ℕ → Contents → List ℕ
 rewritten words c = fresh (slotsFor (length words)) c
 
@@ -29,7 +29,7 @@ rankIn c key = rank (c .order) priorityOf (keysIn c) key
 
 -- "Set-up uses 1, 2."
 unfoldable pub setUpRefusal : List ℕ → ℕ → ℕ
-setUpRefusal words order = lowest (wrongLength words ∷ wrongOrder order ∷ [])
+setUpRefusal words order = firstThatApplies (wrongLength words ∷ wrongOrder order ∷ [])
 
 unfoldable pub setUpReply : List ℕ → ℕ → Reply
 setUpReply words order = record { refusal = setUpRefusal words order; numbers = [] }
@@ -40,7 +40,7 @@ setUpAfter words order = unlessRefused (setUpRefusal words order) (rewritten wor
 
 -- A load: "Errors: the checks are 1, 2."
 unfoldable pub loadRefusal : List ℕ → ℕ → ℕ
-loadRefusal words order = lowest (wrongLength words ∷ wrongOrder order ∷ [])
+loadRefusal words order = firstThatApplies (wrongLength words ∷ wrongOrder order ∷ [])
 
 unfoldable pub loadReply : List ℕ → ℕ → Reply
 loadReply words order = record { refusal = loadRefusal words order; numbers = [] }
@@ -56,7 +56,7 @@ loadAfter words order seed count =
 -- "Build 1, 2, 5, 10"; 12 is "checked straight after 5". A list of keys, and beside it their lengths and corrections.
 unfoldable pub buildRefusal : List ℕ → ℕ → List ℕ → List ℕ → List ℤ → ℕ
 buildRefusal words order list lengths corrections =
-    lowest
+    firstThatApplies
     (wrongLength words
     ∷ wrongOrder order
     ∷ notRising list
@@ -84,7 +84,7 @@ shrunk words key = record { order = shown words .order; entries = without key (s
 -- "Insert 1, 3, 7, 8, 10"; 12 is checked "on insert after 3".
 unfoldable pub insertRefusal : List ℕ → ℕ → Measure → ℕ
 insertRefusal words key measure =
-    lowest
+    firstThatApplies
     (wrongLength words
     ∷ zeroKey key
     ∷ wrongMeasure measure
@@ -106,7 +106,7 @@ insertAfter words key measure = unlessRefused (insertRefusal words key measure) 
 
 -- "Delete 1, 3, 7, 9."
 unfoldable pub deleteRefusal : List ℕ → ℕ → ℕ
-deleteRefusal words key = lowest (wrongLength words ∷ zeroKey key ∷ notSound words ∷ keyAbsent words key ∷ [])
+deleteRefusal words key = firstThatApplies (wrongLength words ∷ zeroKey key ∷ notSound words ∷ keyAbsent words key ∷ [])
 
 unfoldable pub deleteReply : List ℕ → ℕ → Reply
 deleteReply words key =
@@ -120,7 +120,7 @@ deleteAfter words key = unlessRefused (deleteRefusal words key) (rewritten words
 
 -- "Lookup 1, 3, 7."
 unfoldable pub lookupRefusal : List ℕ → ℕ → ℕ
-lookupRefusal words key = lowest (wrongLength words ∷ zeroKey key ∷ notSound words ∷ [])
+lookupRefusal words key = firstThatApplies (wrongLength words ∷ zeroKey key ∷ notSound words ∷ [])
 
 -- "Lookup gives held or absent, and rank, count and leader (zeros when absent)": one for held, zero for absent, and these.
 unfoldable pub standingIn : Contents → ℕ → List ℕ
@@ -149,7 +149,7 @@ lookupCorrection words key = unlessRefused (lookupRefusal words key) (measureIn 
 -- "Range 1, 4, 7, 11."
 unfoldable pub rangeRefusal : List ℕ → ℕ → ℕ → List ℕ → ℕ
 rangeRefusal words low high output =
-    lowest
+    firstThatApplies
     (wrongLength words
     ∷ lowAboveHigh low high
     ∷ notSound words
@@ -171,7 +171,7 @@ rangeOutput words low high output =
 -- "Writer 1, 7, 11."
 unfoldable pub writeRefusal : List ℕ → List ℕ → ℕ
 writeRefusal words output =
-    lowest (wrongLength words ∷ notSound words ∷ outputTooShort (length output) (length (imageOf (shown words))) ∷ [])
+    firstThatApplies (wrongLength words ∷ notSound words ∷ outputTooShort (length output) (length (imageOf (shown words))) ∷ [])
 
 -- "The writer gives it", the image's length, "and changes no later output byte."
 unfoldable pub writeReply : List ℕ → List ℕ → Reply
@@ -187,7 +187,7 @@ writeOutput words output = unlessRefused (writeRefusal words output) (overwrite 
 -- "Reader 1, 6, 10."
 unfoldable pub readRefusal : List ℕ → List ℕ → ℕ
 readRefusal words bytes =
-    lowest (wrongLength words ∷ notAnImage bytes ∷ tooManyKeys words (length (keysIn (readImage bytes))) ∷ [])
+    firstThatApplies (wrongLength words ∷ notAnImage bytes ∷ tooManyKeys words (length (keysIn (readImage bytes))) ∷ [])
 
 unfoldable pub readReply : List ℕ → List ℕ → Reply
 readReply words bytes = record { refusal = readRefusal words bytes; numbers = [] }

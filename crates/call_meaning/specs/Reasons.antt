@@ -1,12 +1,12 @@
 -- The reasons for which a call is turned down, by the documents' numbers. Assumes nothing.
-use mathlib.Core.Bool.{not, _&&_}
+use mathlib.Core.Bool.{not}
 use mathlib.Core.List.{List}
 use Prim.Native.Nat.{ℕ}
 use lib.Dec.{eqb, ltb}
 use lib.IntN.{ℤ}
 use lib.ListN.{length}
-use Rattle.lists.specs.Lists.{every, member}
-use Rattle.measure.specs.Measure.{Measure, isMeasure, measuresBeside}
+use Rattle.lists.specs.Lists.{member}
+use Rattle.measure.specs.Measure.{Measure, isMeasure, areMeasured}
 use Rattle.table.specs.Contents.{Contents, newOrder, risingKeys, keysIn}
 use Rattle.table.specs.Table.{contentsOf}
 use Rattle.image.specs.Image.{isImage}
@@ -68,11 +68,4 @@ unfoldable pub wrongMeasure : Measure → Reason
 wrongMeasure measure = record { number = 12; applies = not (isMeasure measure) }
 
 unfoldable pub wrongMeasures : List ℕ → List ℕ → List ℤ → Reason
-wrongMeasures list lengths corrections =
-    record {
-      number = 12;
-      applies =
-          not
-          (eqb (length lengths) (length list)
-          && (eqb (length corrections) (length list) && every isMeasure (measuresBeside lengths corrections)));
-    }
+wrongMeasures list lengths corrections = record { number = 12; applies = not (areMeasured (length list) lengths corrections) }

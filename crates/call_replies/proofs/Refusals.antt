@@ -8,7 +8,7 @@ use Rattle.lists.specs.Lists.{All}
 use Rattle.lists.proofs.Tests.{by-test}
 use Rattle.call_replies.specs.declared.Refusal.{Refusal}
 use Rattle.call_replies.specs.declared.Refusal.the-variants.{WrongLength, WrongOrder, ZeroKey, LowAboveHigh, NotRising, NotAnImage, NotSound, KeyHeld, KeyAbsent, TooManyKeys, OutputTooShort, WrongMeasure}
-use Rattle.call_replies.specs.Replies.{numberOf, Reason, lowest, unlessRefused}
+use Rattle.call_replies.specs.Replies.{numberOf, Reason, firstThatApplies, unlessRefused}
 
 -- a refusal has a number
 pub numbered : (r : Refusal) → 1 ≤ numberOf r
@@ -26,7 +26,7 @@ numbered OutputTooShort = omega arith
 numbered WrongMeasure = omega arith
 
 -- where no number is returned, no reason applies
-pub none-applies : (rs : List Reason) → All (λ r. 1 ≤ r .number) rs → lowest rs ≡ 0 → All (λ r. r .applies ≡ false) rs
+pub none-applies : (rs : List Reason) → All (λ r. 1 ≤ r .number) rs → firstThatApplies rs ≡ 0 → All (λ r. r .applies ≡ false) rs
 none-applies [] numbered e = tt
 none-applies (r ∷ rs) numbered e =
     by-test (r .applies)

@@ -56,11 +56,11 @@ pub record Reason : Type 0 where
   pub number : ℕ
   pub applies : Bool
 
--- "The lowest number that applies is returned": of reasons by rising number, the first that applies; zero where none does. A reason whose
--- place document 02 states ("checked straight after 5, on insert after 3") stands there.
-abbrev pub lowest : List Reason → ℕ
-lowest [] = 0
-lowest (r ∷ rs) = cond (r .applies) (r .number) (lowest rs)
+-- "The lowest number that applies is returned"; 12 is "checked straight after 5, on insert after 3" (02, N4): the reasons stand in the order in
+-- which they are checked, and the number is that of the first that applies; zero where none does.
+abbrev pub firstThatApplies : List Reason → ℕ
+firstThatApplies [] = 0
+firstThatApplies (r ∷ rs) = cond (r .applies) (r .number) (firstThatApplies rs)
 
 -- "A call for which no number is named gives none when accepted."
 abbrev pub setUpOf : SetUp → Reply

@@ -171,12 +171,6 @@ module _ {A B : Type 0} (f : A → B) where
   removed-mapped (suc at) (y ∷ xs) = ap (λ (ys : List B). f y ∷ ys) (removed-mapped at xs)
 
 module _ {A : Type 0} where
-  pub put-length : (at : ℕ) (x : A) (xs : List A) → length (putAt at x xs) ≡ suc (length xs)
-  unfolding putAt
-  put-length zero x xs = refl
-  put-length (suc at) x [] = refl
-  put-length (suc at) x (y ∷ xs) = ap suc (put-length at x xs)
-
   pub removed-length : (at : ℕ) (xs : List A) → at < length xs → suc (length (removeAt at xs)) ≡ length xs
   unfolding removeAt
   removed-length at [] h = absurd (omega arith)

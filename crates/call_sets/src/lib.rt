@@ -7,8 +7,7 @@ ghost use lib.ListN.{length, take};
 ghost use Rattle.lists.specs.Lists.{Rising, member, overwrite};
 ghost use Rattle.call_sets.specs.Places.{placeOf, putAt, removeAt};
 
-// Where a key stands, or would stand, among the first `n`, which rise. Internal to this library's crates: their lists have so many
-// keys.
+// Where a key stands, or would stand, among the first `n`, which rise.
 fn place_of(keys: &[u64], n: usize, key: u64) -> usize
     requires { ⌜ (n ≤ length (now keys)) × Rising (take n (now keys)) ⌝ }
     ensures { λ r. ⌜ r ≡ placeOf key (take n (now (keys .entry))) ⌝ }
@@ -20,8 +19,7 @@ fn place_of(keys: &[u64], n: usize, key: u64) -> usize
     at
 }
 
-// Put a value in at a place among the first `n`; those from there on move up. Internal to this library's crates: their lists have
-// room for it.
+// Put a value in at a place among the first `n`; those from there on move up.
 fn put_at(list: &mut [u64], n: usize, at: usize, value: u64)
     requires { ⌜ (n < length (now list)) × (at ≤ n) ⌝ }
     ensures { λ _. ⌜ now (list .exit) ≡ overwrite (now (list .entry)) 0 (putAt at value (take n (now (list .entry)))) ⌝ }
@@ -34,8 +32,7 @@ fn put_at(list: &mut [u64], n: usize, at: usize, value: u64)
     list[at] = value;
 }
 
-// Take the value at a place out of the first `n`; those above it move down. Internal to this library's crates: their lists have so
-// many values.
+// Take the value at a place out of the first `n`; those above it move down.
 fn remove_at(list: &mut [u64], n: usize, at: usize)
     requires { ⌜ (n ≤ length (now list)) × (at < n) ⌝ }
     ensures { λ _. ⌜ now (list .exit) ≡ overwrite (now (list .entry)) 0 (removeAt at (take n (now (list .entry)))) ⌝ }

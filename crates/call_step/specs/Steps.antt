@@ -6,7 +6,7 @@ use lib.Dec.{eqb}
 use lib.ListN.{take, replicate}
 use Rattle.table.specs.Contents.{keysIn}
 use Rattle.table_least.specs.LeastKey.{leastWithin}
-use Rattle.call_replies.specs.Replies.{Reply, lowest, unlessRefused}
+use Rattle.call_replies.specs.Replies.{Reply, firstThatApplies, unlessRefused}
 use Rattle.call_meaning.specs.Reasons.{wrongLength, notSound, shown}
 use Rattle.call_step.specs.declared.Place.{Place}
 
@@ -43,7 +43,7 @@ endReply = record { refusal = 0; numbers = 0 ∷ 0 ∷ [] }
 
 -- "A step 1, 7."
 unfoldable pub stepRefusal : List ℕ → ℕ
-stepRefusal words = lowest (wrongLength words ∷ notSound words ∷ [])
+stepRefusal words = firstThatApplies (wrongLength words ∷ notSound words ∷ [])
 
 -- "the least held key from next to high"; zero where there is none.
 unfoldable pub sought : List ℕ → Place → ℕ

@@ -1,19 +1,18 @@
 -- A call over the fresh table of a book leaves the fresh table of the book in which it is noted, and that book is valid again. Assumes a
 -- valid book, and inputs that can be lent.
-use mathlib.Core.Bool.{true, false}
+use mathlib.Core.Bool.{false}
 use mathlib.Core.List.{List}
 use mathlib.Core.Logic.{_≢_}
 use mathlib.Core.Path.{_≡_, refl, sym, ap, _∙_, subst}
 use Prim.Native.Nat.{ℕ, _^_, _≤_, _<_}
 use native.Mathlib.Omega.{arith}
-use lib.Dec.{eqb}
 use lib.IntN.{ℤ}
 use lib.ListN.{length, length-map}
 use borrow.Author.Tests.{not-false, eqb-false, ltb-false}
-use Rattle.lists.specs.Lists.{All, Rising, every}
-use Rattle.lists.proofs.Tests.{and-right}
+use Rattle.lists.specs.Lists.{All, Rising}
 use Rattle.lists.proofs.Keep.{all-both, every-says}
 use Rattle.measure.specs.Measure.{Measure, isMeasure, measuresBeside}
+use Rattle.measure.proofs.Beside.{measured-says}
 use Rattle.table.specs.Contents.{Entry, Contents, Valid, IsKey, newOrder, risingKeys, entryKeys, keysIn}
 use Rattle.table.proofs.Entries.{with-keys, with-right}
 use Rattle.table.specs.Table.{fresh}
@@ -76,9 +75,7 @@ module _ (many : ℕ) (book : Contents) (valid : Valid many book) where
       let rising = rising-says list (not-false (risingKeys list) (spared .1 .0)) in
       let measures = measuresBeside lengths corrections in
       let same = sym (with-keys list measures) in
-      let tested : every isMeasure measures ≡ true =
-      and-right (eqb (length corrections) (length list)) _ (and-right (eqb (length lengths) (length list)) _ (not-false _ (spared .1 .1 .0)))
-      in
+      let tested = measured-says (length list) lengths corrections (not-false _ (spared .1 .1 .0)) .2 in
       record {
         order-right = not-false (newOrder order) (spared .0);
         keys-right = subst (All IsKey) same (all-both (λ k. 1 ≤ k) (λ k. k < 2 ^ 64) list (rising .1) (lent .1));

@@ -11,7 +11,7 @@ use Rattle.table.specs.Layout.{mostSlots}
 use Rattle.table.specs.Contents.{Contents, Valid, newOrder}
 use Rattle.table.specs.Table.{fresh, Sound}
 use Rattle.call_changes.proofs.Loading.{blank-valid, loaded-valid}
-use Rattle.call_replies.specs.Replies.{lowest}
+use Rattle.call_replies.specs.Replies.{firstThatApplies}
 use Rattle.call_meaning.specs.Reasons.{wrongLength, wrongOrder}
 use Rattle.call_meaning.specs.Calls.{rewritten, setUpRefusal, setUpReply, setUpAfter, loadRefusal, loadReply, loadAfter}
 use Rattle.call_meaning.proofs.Judged.{slots-here, right-length}
@@ -48,11 +48,11 @@ module _ (many : ℕ) where
 
 module _ (many : ℕ) (words : List ℕ) (table : Table many words) where
   -- 1 does not apply, and so 2 decides
-  refused-by-order : (order : ℕ) → lowest (wrongLength words ∷ wrongOrder order ∷ []) ≡ lowest (wrongOrder order ∷ [])
+  refused-by-order : (order : ℕ) → firstThatApplies (wrongLength words ∷ wrongOrder order ∷ []) ≡ firstThatApplies (wrongOrder order ∷ [])
   unfolding wrongLength
   refused-by-order order = rw (right-length words many (table .some) (table .most) (table .long))
 
-  order-accepted : (order : ℕ) → ((lowest (wrongLength words ∷ wrongOrder order ∷ []) ≡ 0) ↔ (newOrder order ≡ true))
+  order-accepted : (order : ℕ) → ((firstThatApplies (wrongLength words ∷ wrongOrder order ∷ []) ≡ 0) ↔ (newOrder order ≡ true))
   unfolding wrongOrder
   order-accepted order = (
     λ e. not-false (newOrder order) (none-applies (wrongOrder order ∷ []) (omega arith) (sym (refused-by-order order) ∙ e) .0),

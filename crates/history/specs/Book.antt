@@ -17,7 +17,7 @@ use Rattle.call_sets.specs.Sets.{joined, without}
 use Rattle.call_sets.specs.Load.{loaded}
 use Rattle.intervals.specs.Intervals.{within}
 use Rattle.table_least.specs.LeastKey.{leastWithin}
-use Rattle.call_replies.specs.Replies.{Reply, Reason, lowest, unlessRefused}
+use Rattle.call_replies.specs.Replies.{Reply, Reason, firstThatApplies, unlessRefused}
 use Rattle.call_meaning.specs.Reasons.{wrongOrder, zeroKey, lowAboveHigh, notRising, notAnImage, outputTooShort, wrongMeasure, wrongMeasures}
 use Rattle.call_meaning.specs.Calls.{rankIn, standingIn}
 use Rattle.call_step.specs.Steps.{endReply, yielded, moved}
@@ -93,7 +93,7 @@ reasons many (load order seed count) book = wrongOrder order ∷ []
 reasons many (batch questions) book = notRising (keysOf questions) ∷ []
 
 unfoldable pub refusalBy : ℕ → Call → Contents → ℕ
-refusalBy many call book = lowest (reasons many call book)
+refusalBy many call book = firstThatApplies (reasons many call book)
 
 -- ---- the book of a list of calls
 -- "Set-up, unless 2 applies ..; build, unless 2, 5 or 10 ..; reading, unless 6 or 10 ..; insert, unless 3, 8 or 10 ..; delete, unless 3

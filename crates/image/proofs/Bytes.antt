@@ -1,12 +1,12 @@
 -- Numbers in little-endian bytes: how many bytes, that each is a byte, and that writing and reading undo each other; fields of
 -- bytes that are put together from parts. Assumes nothing.
 use mathlib.Core.List.{List, [], _∷_, _++_}
-use mathlib.Core.Path.{_≡_, refl, sym, ap, ap₂, _∙_}
+use mathlib.Core.Path.{_≡_, refl, ap, ap₂, _∙_}
 use Prim.Native.Nat.{ℕ, zero, suc, _+_, _^_, _/_, _≤_, _<_}
 use native.Mathlib.Nat.{mod-lt, mod-add-div, div-lt-iff-lt-mul, div-eq-of-lt, mod-eq-of-lt, add-mul-mod-self-left, add-mul-div-left, zero-add}
 use native.Mathlib.Omega.{arith}
-use lib.ListN.{length, take, drop, length-take, length-drop}
-use lib.Seq.{take-at, drop-at, take-append-le, drop-append-le, drop-append-add}
+use lib.ListN.{length, take, drop, length-take}
+use lib.Seq.{take-at, drop-at}
 use Rattle.lists.specs.Lists.{All}
 use Rattle.treap.specs.Image.{littleEndian}
 use Rattle.image.specs.Image.{numberOf, fieldAt}
@@ -67,16 +67,3 @@ pub field-between : (front field rest : List ℕ) (start width : ℕ) → length
 unfolding fieldAt
 field-between front field rest start width e w =
     ap (λ (xs : List ℕ). numberOf (take width xs)) (drop-at front (field ++ rest) start e) ∙ ap numberOf (take-at field rest width w)
-
--- a field of the first part, and one of the second
-pub field-before : (front rest : List ℕ) (start width : ℕ) → start + width ≤ length front → fieldAt start width (front ++ rest) ≡ fieldAt start width front
-unfolding fieldAt
-field-before front rest start width h =
-    ap (λ (xs : List ℕ). numberOf (take width xs)) (drop-append-le start front rest (omega arith))
-    ∙ ap numberOf (take-append-le width (drop start front) rest (omega (arith, length-drop start front)))
-
-pub field-after : (front rest : List ℕ) (size start width : ℕ) → length front ≡ size → fieldAt (size + start) width (front ++ rest) ≡ fieldAt start width rest
-unfolding fieldAt
-field-after front rest size start width e =
-    ap (λ (n : ℕ). numberOf (take width (drop (n + start) (front ++ rest)))) (sym e)
-    ∙ ap (λ (xs : List ℕ). numberOf (take width xs)) (drop-append-add front rest start)

@@ -13,10 +13,9 @@ use Rattle.lists.proofs.Keep.{all-map, all-both, all-mapped, all-append, every-
 use Rattle.lists.proofs.Membership.{same-says, same-when}
 use Rattle.lists.proofs.Rising.{rises-says, rises-when}
 use Rattle.lists.proofs.Sorting.{all-permuted, sortBy-permutes}
-use Rattle.measure.specs.Measure.{isMeasure}
 use Rattle.treap.specs.Image.{countBytes, keyBytes}
 use Rattle.table.specs.Layout.{mostSlots}
-use Rattle.table.specs.Contents.{Contents, IsKey, Valid, tableOrder, keysIn, keyBelow}
+use Rattle.table.specs.Contents.{Contents, IsKey, Valid, tableOrder, keysIn, keyBelow, rightMeasure}
 use Rattle.image.specs.Layout.{headerBytes, blockBytes, blocksAt, heldAt, keyAt, IsByte}
 use Rattle.image.specs.Image.{imageOf, fieldAt, nodeSpan, entryShown, nodeEntries, nodesSpan, blockEntries, readImage, isImage}
 use Rattle.image.proofs.Bytes.{all-drop, field-fits}
@@ -55,7 +54,7 @@ shown-sized bytes a =
 -- ---- the test
 module _ (bytes : List ℕ) (passed : isImage bytes ≡ true) where
   abbrev exactly : Bool
-  exactly = every (λ e. isMeasure (e .measure)) (readImage bytes .entries) && same bytes (imageOf (readImage bytes))
+  exactly = every rightMeasure (readImage bytes .entries) && same bytes (imageOf (readImage bytes))
 
   after-order : (risesB (keysIn (readImage bytes)) && (every nonzero (keysIn (readImage bytes)) && (leb (length (keysIn (readImage bytes))) mostSlots && exactly))) ≡ true
   unfolding isImage
@@ -71,7 +70,7 @@ module _ (bytes : List ℕ) (passed : isImage bytes ≡ true) where
   after-size = and-right (leb (length (keysIn (readImage bytes))) mostSlots) _ after-nonzero
 
   pub is-image-exactly : bytes ≡ imageOf (readImage bytes)
-  is-image-exactly = same-says bytes (imageOf (readImage bytes)) (and-right (every (λ e. isMeasure (e .measure)) (readImage bytes .entries)) _ after-size)
+  is-image-exactly = same-says bytes (imageOf (readImage bytes)) (and-right (every rightMeasure (readImage bytes .entries)) _ after-size)
 
   pub is-image-valid : All IsByte bytes → Valid mostSlots (readImage bytes)
   unfolding isImage
@@ -83,7 +82,7 @@ module _ (bytes : List ℕ) (passed : isImage bytes ≡ true) where
             (shown-sized bytes a);
         keys-rise = rises-says (keysIn (readImage bytes)) (and-left (risesB (keysIn (readImage bytes))) _ after-order);
         keys-fit = leb-true (length (keysIn (readImage bytes))) mostSlots (and-left (leb (length (keysIn (readImage bytes))) mostSlots) _ after-nonzero);
-        measures-right = every-says (λ e. isMeasure (e .measure)) (readImage bytes .entries) (and-left (every (λ e. isMeasure (e .measure)) (readImage bytes .entries)) _ after-size);
+        measures-right = every-says rightMeasure (readImage bytes .entries) (and-left (every rightMeasure (readImage bytes .entries)) _ after-size);
       }
 
   -- bytes that pass are the image of valid contents, those that they show
@@ -98,7 +97,7 @@ image-passes c valid =
     (and-both (risesB (keysIn c)) _ (rises-when (keysIn c) (valid .keys-rise))
     (and-both (every nonzero (keysIn c)) _ (every-when nonzero (keysIn c) (all-map IsKey (λ k. nonzero k ≡ true) (λ k h. nonzero-when k (h .0)) (keysIn c) (valid .keys-right)))
     (and-both (leb (length (keysIn c)) mostSlots) _ (le-leb (length (keysIn c)) mostSlots (valid .keys-fit))
-    (and-both (every (λ e. isMeasure (e .measure)) (c .entries)) _ (every-when (λ e. isMeasure (e .measure)) (c .entries) (valid .measures-right)) (same-when (imageOf c) (imageOf c) refl))))))
+    (and-both (every rightMeasure (c .entries)) _ (every-when rightMeasure (c .entries) (valid .measures-right)) (same-when (imageOf c) (imageOf c) refl))))))
 
 -- the image of valid contents passes
 pub is-image-when : (bytes : List ℕ) (c : Contents) → Valid mostSlots c → bytes ≡ imageOf c → isImage bytes ≡ true

@@ -3,14 +3,14 @@
 use mathlib.Core.Bool.{Bool}
 use mathlib.Core.List.{List, [], _∷_, flatMap}
 use mathlib.Core.Path.{_≡_, refl, ap, _∙_}
-use Prim.Native.Nat.{ℕ, suc, _+_, _*_, _≤_, _<_}
+use Prim.Native.Nat.{ℕ, suc, _+_, _≤_, _<_}
 use native.Mathlib.Omega.{arith}
 use lib.Dec.{eqb}
 use lib.ListN.{length, length-append, length-map}
 use Rattle.lists.specs.Lists.{All, Rising, keep, nonzero}
 use Rattle.lists.proofs.Tests.{by-test, lies-says}
 use Rattle.lists.proofs.Keep.{all-always, all-append, length-keep}
-use Rattle.lists.proofs.FlatMap.{all-flatMap, flatMap-append}
+use Rattle.lists.proofs.FlatMap.{all-flatMap}
 use Rattle.lists.proofs.Sorting.{sortBy-permutes}
 use Rattle.lists.proofs.Occurrences.{kept-permuted}
 use Rattle.measure.specs.Measure.{Measure, storedCorrection}
@@ -23,8 +23,9 @@ use Rattle.image.proofs.ImageOrder.{before, image-order, held-total, bl
 use Rattle.table.specs.Layout.{mostSlots, leastOrder, greatestOrder}
 use Rattle.table.specs.Contents.{Entry, Contents, Valid, tableOrder, entryKeys, keysIn, measureIn}
 use Rattle.table.proofs.Entries.{found-self}
-use Rattle.image.specs.Layout.{blockBytes, nodeBytes, measureBytes, recordBytes, imageBytes, IsByte}
+use Rattle.image.specs.Layout.{blockBytes, recordBytes, imageBytes, mostBytes, IsByte}
 use Rattle.image.specs.Image.{imageOf, measuredIn}
+use Rattle.image.proofs.PartLengths.{nodes-length, parts-length}
 use Rattle.image.proofs.Records.{header-length, block-length, node-length, header-bytes, block-bytes, node-bytes}
 
 -- "The order α is 3 to 255."
@@ -43,17 +44,6 @@ module _ (α : ℕ) (p : ℕ → ℕ) (m : ℕ → Measure) (ks : List ℕ) wher
   unfolding nodeOf
   nodeOf-length k = node-length k (leftLink p ks k) (rightLink p ks k) (rank α p ks k) (count α p ks k) (m k .length) (storedCorrection (m k))
 
-  pub nodes-length : (xs : List ℕ) → length (flatMap (nodeOf α p m ks) xs) ≡ nodeBytes * length xs + measureBytes * length (keep (hasMeasure m) xs)
-  unfolding flatMap
-  nodes-length [] = refl
-  nodes-length (x ∷ xs) =
-      let both = length-append (nodeOf α p m ks x) (flatMap (nodeOf α p m ks) xs) in
-      let first = nodeOf-length x in
-      let later = nodes-length xs in
-      by-test (eqb (m x .length) 0)
-      (λ e. let plain : length (nodeOf α p m ks x) ≡ nodeBytes = rw e at first in rw e (omega arith))
-      (λ e. let more : length (nodeOf α p m ks x) ≡ nodeBytes + measureBytes = rw e at first in rw e (omega arith))
-
   pub blockPart-length : (b : Block) → length (blockPart α p m ks b) ≡ blockBytes + length (flatMap (nodeOf α p m ks) (b .held))
   unfolding blockPart
   blockPart-length b =
@@ -61,21 +51,6 @@ module _ (α : ℕ) (p : ℕ → ℕ) (m : ℕ → Measure) (ks : List ℕ) wher
         arith,
         length-append (blockRecord (b .leaderKey) (b .level) (length (b .held))) (flatMap (nodeOf α p m ks) (b .held)),
         block-length (b .leaderKey) (b .level) (length (b .held)),
-      )
-
-  -- any blocks, and all that they hold
-  pub parts-length : (bs : List Block) → length (flatMap (blockPart α p m ks) bs) ≡ blockBytes * length bs + length (flatMap (nodeOf α p m ks) (flatMap (λ b. b .held) bs))
-  unfolding flatMap
-  parts-length [] = refl
-  parts-length (b ∷ bs) =
-      let apart = ap length (flatMap-append (nodeOf α p m ks) (b .held) (flatMap (λ d. d .held) bs)) in
-      omega (
-        arith,
-        apart,
-        length-append (flatMap (nodeOf α p m ks) (b .held)) (flatMap (nodeOf α p m ks) (flatMap (λ d. d .held) bs)),
-        length-append (blockPart α p m ks b) (flatMap (blockPart α p m ks) bs),
-        blockPart-length b,
-        parts-length bs,
       )
 
   -- ---- it is made of bytes
@@ -130,12 +105,13 @@ module _ {most : ℕ} (c : Contents) (valid : Valid most c) where
   image-length =
       let bs = blocks (c .order) priorityOf (keysIn c) in
       let m = measureIn (c .entries) in
+      let node = nodeOf (c .order) priorityOf m (keysIn c) in
       omega (
         arith,
         length-append (headerRecord (c .order) (length (keysIn c)) (length bs) (top priorityOf (keysIn c))) (flatMap (blockPart (c .order) priorityOf m (keysIn c)) bs),
         header-length (c .order) (length (keysIn c)) (length bs) (top priorityOf (keysIn c)),
-        parts-length (c .order) priorityOf m (keysIn c) bs,
-        nodes-length (c .order) priorityOf m (keysIn c) (flatMap (λ b. b .held) bs),
+        parts-length node (blockPart (c .order) priorityOf m (keysIn c)) (λ b. b .held) (blockPart-length (c .order) priorityOf m (keysIn c)) bs,
+        nodes-length node (λ k. m k .length) (nodeOf-length (c .order) priorityOf m (keysIn c)) (flatMap (λ b. b .held) bs),
         measured-held,
         held-total (c .order) priorityOf wide (keysIn c) (valid .keys-rise),
       )
@@ -151,6 +127,5 @@ module _ {most : ℕ} (c : Contents) (valid : Valid most c) where
   pub image-at-most : length (imageOf c) ≤ imageBytes most most most
   image-at-most = omega (arith, image-length, blocks-fit, measured-fit, valid .keys-fit)
 
--- the longest image, of 4,096 measured keys in as many blocks
-pub image-longest : (c : Contents) → Valid mostSlots c → length (imageOf c) ≤ 204815
-image-longest c valid = omega (arith, image-at-most c valid)
+pub image-longest : (c : Contents) → Valid mostSlots c → length (imageOf c) ≤ mostBytes
+image-longest = image-at-most {most = mostSlots}

@@ -5,6 +5,7 @@ pub mod Weights
 pub mod BlockTurns
 pub mod Bytes
 pub mod Records
+pub mod PartLengths
 pub mod Lengths
 pub mod Reading
 pub mod Judging

@@ -6,7 +6,7 @@ use mathlib.Core.Path.{_≡_, refl, sym, ap, ap₂, _∙_, subst}
 use Prim.Native.Nat.{ℕ, suc, _+_, _^_, _≤_, _<_}
 use native.Mathlib.Omega.{arith}
 use lib.ListN.{length, drop, length-append}
-use lib.Seq.{drop-at, drop-drop}
+use lib.Seq.{drop-at}
 use Rattle.lists.specs.Lists.{All, member, sortBy}
 use Rattle.lists.proofs.Keep.{all-map, all-both}
 use Rattle.lists.proofs.Membership.{all-member}
@@ -87,18 +87,8 @@ module _ (α : ℕ) (p : ℕ → ℕ) (m : ℕ → Measure) (ks : List ℕ) wher
         ap (drop blockBytes) record-first
         ∙ block-dropped (b .leaderKey) (b .level) (length (b .held)) (flatMap (nodeOf α p m ks) (b .held) ++ rest)
 
-    pub part-span : nodesSpan (length (b .held)) (drop blockBytes (blockPart α p m ks b ++ rest)) ≡ length (flatMap (nodeOf α p m ks) (b .held))
-    part-span = ap (nodesSpan (length (b .held))) part-nodes ∙ nodes-span (b .held) rest
-
     pub part-left : drop (nodesSpan (length (b .held)) (drop blockBytes (blockPart α p m ks b ++ rest))) (drop blockBytes (blockPart α p m ks b ++ rest)) ≡ rest
     part-left = ap (λ (bytes : List ℕ). drop (nodesSpan (length (b .held)) bytes) bytes) part-nodes ∙ nodes-left (b .held) rest
-
-    pub part-dropped : drop (blockBytes + length (flatMap (nodeOf α p m ks) (b .held))) (blockPart α p m ks b ++ rest) ≡ rest
-    part-dropped =
-        let many = length (flatMap (nodeOf α p m ks) (b .held)) in
-        sym (drop-drop many blockBytes (blockPart α p m ks b ++ rest))
-        ∙ ap (drop many) part-nodes
-        ∙ drop-at (flatMap (nodeOf α p m ks) (b .held)) rest many refl
 
   -- ---- the entries of node records
   module _ (right : (k : ℕ) → isMeasure (m k) ≡ true) where

@@ -5,11 +5,11 @@ use Prim.Native.Nat.{ℕ, zero, suc, _+_, _*_}
 use lib.Dec.{leb}
 use lib.ListN.{length, take, drop}
 use Rattle.lists.specs.Lists.{same, risesB, every, keep, nonzero, sortBy}
-use Rattle.measure.specs.Measure.{unmeasured, isMeasure, measureFrom}
+use Rattle.measure.specs.Measure.{unmeasured, measureFrom}
 use Rattle.priority.specs.Priority.{priorityOf}
 use Rattle.treap.specs.Image.{image, orderBytes, countBytes, keyBytes, lengthBytes, correctionBytes, measuredMark}
 use Rattle.table.specs.Layout.{mostSlots}
-use Rattle.table.specs.Contents.{Entry, Contents, keysIn, measureIn, keyBelow, tableOrder}
+use Rattle.table.specs.Contents.{Entry, Contents, keysIn, measureIn, keyBelow, tableOrder, rightMeasure}
 use Rattle.image.specs.Layout.{headerBytes, blockBytes, nodeBytes, measureBytes, orderAt, blocksAt, heldAt, keyAt, lengthAt, correctionAt}
 
 -- "A table's image": the bytes for its order and set, with measures.
@@ -80,4 +80,4 @@ isImage bytes =
     && (risesB (keysIn (readImage bytes))
     && (every nonzero (keysIn (readImage bytes))
     && (leb (length (keysIn (readImage bytes))) mostSlots
-    && (every (λ e. isMeasure (e .measure)) (readImage bytes .entries) && same bytes (imageOf (readImage bytes))))))
+    && (every rightMeasure (readImage bytes .entries) && same bytes (imageOf (readImage bytes))))))

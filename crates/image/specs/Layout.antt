@@ -2,6 +2,7 @@
 use mathlib.Core.Bool.{cond}
 use Prim.Native.Nat.{ℕ, _+_, _*_, _<_}
 use lib.Dec.{eqb}
+use Rattle.table.specs.Layout.{mostSlots}
 
 -- "Length is 15 + 14·b + 30·n": the bytes of a record; a measured key's has "6 bytes more" (02, N4).
 abbrev pub headerBytes : ℕ
@@ -62,6 +63,10 @@ correctionAt = 34
 -- "Length is 15 + 14·b + 30·n", for n keys in b blocks, and "6 bytes more" for each of m measured ones.
 abbrev pub imageBytes : ℕ → ℕ → ℕ → ℕ
 imageBytes n b m = headerBytes + blockBytes * b + nodeBytes * n + measureBytes * m
+
+-- No image has more bytes: there are at most as many blocks, and as many measured keys, as keys.
+abbrev pub mostBytes : ℕ
+mostBytes = imageBytes mostSlots mostSlots mostSlots
 
 -- The number is a byte.
 abbrev pub IsByte : ℕ → Type 0

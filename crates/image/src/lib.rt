@@ -22,6 +22,17 @@ pub const LENGTH_BYTES: usize = 4;
 
 pub const CORRECTION_BYTES: usize = 2;
 
+// The bytes of the marks: the first of every record, then the one that names its kind.
+pub const MARK: u8 = b'L';
+
+pub const HEADER_MARK: u8 = b'H';
+
+pub const BLOCK_MARK: u8 = b'B';
+
+pub const NODE_MARK: u8 = b'N';
+
+pub const MEASURED_MARK: u8 = b'M';
+
 // Where the header's fields begin.
 pub const ORDER_AT: usize = 2;
 
@@ -53,7 +64,7 @@ pub const LENGTH_AT: usize = 30;
 
 pub const CORRECTION_AT: usize = 34;
 
-// The bytes of the longest image: of 4,096 measured keys in as many blocks.
+// No image has more bytes: those of 4,096 measured keys and as many blocks.
 pub const MOST_BYTES: usize = 204815;
 
 // The most bytes with which an image cannot have more than 512 keys: a header and so many node records.

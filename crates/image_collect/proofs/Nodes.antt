@@ -15,6 +15,7 @@ use Rattle.measure.specs.Tag.{isStored, tagFrom, tagOf}
 use Rattle.measure.proofs.Stored.{stored-measures, unmeasured-right}
 use Rattle.measure.proofs.Tags.{tag-from-stored, unmeasured-tag}
 use Rattle.treap.specs.Image.{lengthBytes, correctionBytes, nodeMark}
+use Rattle.table.specs.Contents.{rightMeasure}
 use Rattle.image.specs.Layout.{nodeBytes, measureBytes, lengthAt, correctionAt}
 use Rattle.image.specs.Image.{fieldAt, isMeasured, nodeSpan, entryShown, nodeEntries, nodesSpan}
 use Rattle.image_collect.specs.Reading.{isNode, areNodes}
@@ -126,7 +127,7 @@ pub nodes-least : (many : ℕ) (bytes : List ℕ) → nodeBytes * many ≤ nodes
 nodes-least zero bytes = omega arith
 nodes-least (suc many) bytes = omega (arith, span-least bytes, nodes-least many (drop (nodeSpan bytes) bytes))
 
-pub nodes-right : (many : ℕ) (bytes : List ℕ) → areNodes many bytes ≡ true → All (λ e. isMeasure (e .measure) ≡ true) (nodeEntries many bytes)
+pub nodes-right : (many : ℕ) (bytes : List ℕ) → areNodes many bytes ≡ true → All (λ e. rightMeasure e ≡ true) (nodeEntries many bytes)
 nodes-right zero bytes h = tt
 nodes-right (suc many) bytes h =
     let rest = drop (nodeSpan bytes) bytes in

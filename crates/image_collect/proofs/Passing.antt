@@ -1,7 +1,7 @@
 -- Passing the node records of a block one by one: those passed are written down, and those to come are read from here on. Assumes
 -- nothing.
 use mathlib.Core.Bool.{Bool, true, false, cond, _&&_}
-use mathlib.Core.List.{List, [], _∷_, _++_, map, map-append, append-assoc, append-nil}
+use mathlib.Core.List.{List, [], _∷_, _++_, append-assoc, append-nil}
 use mathlib.Core.Path.{_≡_, refl, sym, ap, ap₂, _∙_}
 use Prim.Native.Nat.{ℕ, suc, _+_, _-_, _<_, _≤_}
 use native.Mathlib.Omega.{arith}
@@ -9,7 +9,7 @@ use lib.ListN.{length, take, drop, set, length-append, length-drop, length-map}
 use lib.Seq.{drop-drop, take-all}
 use Rattle.lists.specs.Lists.{overwrite}
 use Rattle.lists.proofs.Overwrite.{overwrite-none, overwrite-length}
-use Rattle.lists.proofs.Parts.{overwrite-more}
+use Rattle.lists.proofs.Parts.{written-more}
 use Rattle.measure.specs.Tag.{tagOf}
 use Rattle.treap.specs.Image.{keyBytes}
 use Rattle.table.specs.Contents.{Entry, entryKeys}
@@ -34,16 +34,6 @@ unfolding entryShown
 key-shown at bytes = sym (field-from at keyAt keyBytes bytes)
 
 -- ---- the loop
--- one number more of the entries written down
-written-more : (f : Entry → ℕ) (before list : List ℕ) (from i : ℕ) (done : List Entry) → list ≡ overwrite before from (map f done) → length done ≡ i
-    → from + i < length before → (e : Entry) (x : ℕ) → x ≡ f e → set list (from + i) x ≡ overwrite before from (map f (done ++ (e ∷ [])))
-written-more f before list from i done holds many room e x here =
-    let size = length-map done f in
-    ap (λ (l : List ℕ). set l (from + i) x) holds
-    ∙ overwrite-more from (from + i) (map f done) before (omega arith) (omega arith) x room
-    ∙ ap (λ (y : ℕ). overwrite before from (map f done ++ (y ∷ []))) here
-    ∙ ap (overwrite before from) (sym (map-append f done (e ∷ [])))
-
 module _ (records : List ℕ) (keys-before tags-before : List ℕ) (held from : ℕ) where
   -- The first `i` records, of `held`, are passed and their keys and tags stand from index `from` on; the next record begins at byte `at`.
   pub record Passed (keys tags : List ℕ) (at i : ℕ) : Type 0 where
@@ -122,8 +112,8 @@ module _ (records : List ℕ) (keys-before tags-before : List ℕ) (held from : 
                   ∙ ap (λ (m : ℕ). at + nodesSpan m here) rest-many
                   ∙ ap (λ (bytes : List ℕ). at + (nodeSpan here + nodesSpan left bytes)) next
                   ∙ omega (arith, span-is);
-              keys-hold = written-more (λ e. e .key) keys-before keys from i (s .done) (s .keys-hold) (s .count) (omega arith) shown key key-is;
-              tags-hold = written-more (λ e. tagOf (e .measure)) tags-before tags from i (s .done) (s .tags-hold) (s .count) (omega arith) shown tag tag-is;
+              keys-hold = written-more (λ e. e .key) keys-before keys from (from + i) (s .done) (s .keys-hold) (omega (arith, s .count)) (omega arith) shown key key-is;
+              tags-hold = written-more (λ e. tagOf (e .measure)) tags-before tags from (from + i) (s .done) (s .tags-hold) (omega (arith, s .count)) (omega arith) shown tag tag-is;
             }
 
       -- ---- no record more

@@ -20,7 +20,7 @@ use Rattle.treap.specs.Levels.{rank, count}
 use Rattle.treap.specs.Blocks.{Block, blocks}
 use Rattle.treap.specs.Image.{nodeMark, nodeRecord, nodeOf, blockPart, countBytes}
 use Rattle.table.specs.Layout.{mostSlots}
-use Rattle.table.specs.Contents.{Contents, Valid, entryKeys, keysIn, measureIn, keyBelow}
+use Rattle.table.specs.Contents.{Contents, Valid, entryKeys, keysIn, measureIn, keyBelow, rightMeasure}
 use Rattle.table.proofs.Entries.{sorted-keys}
 use Rattle.image.specs.Layout.{headerBytes, blockBytes, nodeBytes, measureBytes, heldAt, IsByte}
 use Rattle.image.specs.Image.{imageOf, fieldAt, nodeEntries, nodesSpan, blockEntries, readImage, isImage}
@@ -165,14 +165,14 @@ entries-inside (suc many) bytes h =
       length-append (nodeEntries held nodes) (blockEntries many rest),
     )
 
-entries-right : (many : ℕ) (bytes : List ℕ) → intact many bytes ≡ true → All (λ e. isMeasure (e .measure) ≡ true) (blockEntries many bytes)
+entries-right : (many : ℕ) (bytes : List ℕ) → intact many bytes ≡ true → All (λ e. rightMeasure e ≡ true) (blockEntries many bytes)
 entries-right zero bytes h = tt
 entries-right (suc many) bytes h =
     let held = fieldAt heldAt countBytes bytes in
     let nodes = drop blockBytes bytes in
     let rest = drop (nodesSpan held nodes) nodes in
     let (reach, all, later) = block-parts many bytes h in
-    all-append (λ e. isMeasure (e .measure) ≡ true) (nodeEntries held nodes) (blockEntries many rest) (nodes-right held nodes all) (entries-right many rest later)
+    all-append (λ e. rightMeasure e ≡ true) (nodeEntries held nodes) (blockEntries many rest) (nodes-right held nodes all) (entries-right many rest later)
 
 module _ (room : ℕ) (bytes : List ℕ) (e : readable room bytes ≡ true) where
   -- what can be read has a header, and keys for which there is room
@@ -197,6 +197,6 @@ module _ (room : ℕ) (bytes : List ℕ) (e : readable room bytes ≡ true) wher
       let inside = entries-inside (blocksOf bytes) (drop headerBytes bytes) all-intact in
       enough (length (entriesOf bytes)) (omega (arith, readable-few, few)) (omega (arith, inside, readable-header, length-drop headerBytes bytes))
 
-  pub readable-right : All (λ e. isMeasure (e .measure) ≡ true) (entriesOf bytes)
+  pub readable-right : All (λ e. rightMeasure e ≡ true) (entriesOf bytes)
   unfolding entriesOf
   readable-right = entries-right (blocksOf bytes) (drop headerBytes bytes) all-intact

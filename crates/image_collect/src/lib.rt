@@ -21,8 +21,12 @@ use image::KEY_AT;
 use image::KEY_BYTES;
 use image::LENGTH_AT;
 use image::LENGTH_BYTES;
+use image::MARK;
 use image::MEASURE_BYTES;
+use image::MEASURED_MARK;
 use image::NODE_BYTES;
+use image::NODE_MARK;
+use measure::UNMEASURED;
 
 // What checking a block's node records finds: where they end.
 enum Checked {
@@ -36,15 +40,15 @@ pub enum Collected {
     Broken,
 }
 
-// Whether the node record at the start of the bytes is a measured key's. Internal to this library's crates.
-pub fn is_measured(node: &[u8]) -> bool
+// Whether the node record at the start of the bytes is a measured key's.
+fn is_measured(node: &[u8]) -> bool
     requires { ⌜ nodeBytes ≤ length (now node) ⌝ }
     ensures { λ r. ⌜ r ≡ isMeasured (now (node .entry)) ⌝ }
 {
-    if node[0] != b'L' {
+    if node[0] != MARK {
         return false;
     }
-    node[1] == b'M'
+    node[1] == MEASURED_MARK
 }
 
 // How many bytes that record has. Internal to this library's crates.
@@ -67,7 +71,7 @@ fn is_node(node: &[u8]) -> bool
         return false;
     }
     if !is_measured(node) {
-        return node[0] == b'L' && node[1] == b'N';
+        return node[0] == MARK && node[1] == NODE_MARK;
     }
     if size < NODE_BYTES + MEASURE_BYTES {
         return false;
@@ -83,7 +87,7 @@ fn tag_shown(node: &[u8]) -> u64
     ensures { λ r. ⌜ r ≡ tagOf (entryShown (now (node .entry)) .measure) ⌝ }
 {
     if !is_measured(node) {
-        return 0;
+        return UNMEASURED;
     }
     let long = image_fields::get(node, LENGTH_AT, LENGTH_BYTES);
     let stored = image_fields::get(node, CORRECTION_AT, CORRECTION_BYTES);

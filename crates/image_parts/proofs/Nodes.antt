@@ -2,23 +2,21 @@
 -- Assumes nothing.
 use mathlib.Core.List.{List, [], _∷_, _++_, flatMap, append-nil}
 use mathlib.Core.Path.{_≡_, refl, sym, ap, ap₂, _∙_}
-use Prim.Native.Nat.{ℕ, _+_, _*_, _-_, _<_, _≤_}
+use Prim.Native.Nat.{ℕ, _+_, _-_, _<_, _≤_}
 use native.Mathlib.Omega.{arith}
-use lib.Dec.{eqb}
 use lib.ListN.{length, getD, take, length-append}
 use lib.Seq.{slice, slice-empty, length-slice, drop-cons, getD-take}
-use Rattle.lists.specs.Lists.{keep, overwrite}
-use Rattle.lists.proofs.Tests.{by-test}
+use Rattle.lists.specs.Lists.{overwrite}
 use Rattle.lists.proofs.FlatMap.{flatMap-append}
 use Rattle.lists.proofs.Overwrite.{overwrite-none, overwrite-length}
 use Rattle.lists.proofs.Parts.{slice-more, slice-append, overwrite-next}
 use Rattle.measure.specs.Tag.{lengthIn, storedIn}
 use Rattle.treap.specs.Image.{blockRecord, nodeRecord}
-use Rattle.image.specs.Layout.{blockBytes, nodeBytes, measureBytes, recordBytes}
+use Rattle.image.specs.Layout.{blockBytes, recordBytes}
 use Rattle.table_encode.specs.Encode.{Columns, keyAt}
 use Rattle.image.proofs.Records.{block-length, node-length}
 use Rattle.image_blocks.specs.Naming.{levelAt, leaderAt}
-use Rattle.image_parts.specs.Parts.{nodeAt, measuredAt, blockAt}
+use Rattle.image_parts.specs.Parts.{nodeAt, blockAt}
 
 -- The record of the key at an index, from the links and the parts of its tag that were looked up.
 pub node-is : (keys tags left right rank count : List ℕ) (i l r long stored : ℕ) → l ≡ keyAt keys (getD left i 0) → r ≡ keyAt keys (getD right i 0)
@@ -41,17 +39,6 @@ module _ (keys tags left right rank count : List ℕ) where
   -- the same from a length that was looked up
   pub node-bytes-are : (i long : ℕ) → long ≡ lengthIn (getD tags i 0) → recordBytes long ≡ length (node i)
   node-bytes-are i long e = ap recordBytes e ∙ sym (node-at-length i)
-
-  pub nodes-length : (xs : List ℕ) → length (flatMap node xs) ≡ nodeBytes * length xs + measureBytes * length (keep (measuredAt tags) xs)
-  unfolding flatMap measuredAt
-  nodes-length [] = refl
-  nodes-length (x ∷ xs) =
-      let both = length-append (node x) (flatMap node xs) in
-      let first = node-at-length x in
-      let later = nodes-length xs in
-      by-test (eqb (lengthIn (getD tags x 0)) 0)
-      (λ e. let plain : length (node x) ≡ nodeBytes = rw e at first in rw e (omega arith))
-      (λ e. let more : length (node x) ≡ nodeBytes + measureBytes = rw e at first in rw e (omega arith))
 
   -- The output once the records of the keys from `low` up to `j` are written, up to byte `next`.
   pub record KeysPut (sorted before : List ℕ) (low at : ℕ) (output : List ℕ) (next j : ℕ) : Type 0 where

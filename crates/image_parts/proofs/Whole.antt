@@ -4,18 +4,19 @@ use mathlib.Core.List.{List, [], _∷_, _++_, flatMap}
 use mathlib.Core.Path.{_≡_, refl, ap, ap₂, _∙_}
 use Prim.Native.Nat.{ℕ, suc, _+_, _*_, _≤_}
 use native.Mathlib.Omega.{arith}
-use lib.ListN.{length, length-append}
+use lib.ListN.{length, getD, length-append}
 use Rattle.lists.specs.Lists.{keep, overwrite, joinRun, runs}
 use Rattle.lists.proofs.Keep.{length-keep}
-use Rattle.lists.proofs.FlatMap.{flatMap-append}
 use Rattle.lists.proofs.Parts.{overwrite-next}
+use Rattle.measure.specs.Tag.{lengthIn}
 use Rattle.treap.specs.Image.{headerRecord}
 use Rattle.image.specs.Layout.{headerBytes, blockBytes, nodeBytes, measureBytes}
 use Rattle.table_encode.specs.Encode.{Columns, keyAt}
+use Rattle.image.proofs.PartLengths.{nodes-length, parts-length}
 use Rattle.image.proofs.Records.{header-length}
 use Rattle.image_blocks.specs.Naming.{sameWeight}
 use Rattle.image_parts.specs.Parts.{nodeAt, measuredAt, blockAt, blocksAt, imageAt}
-use Rattle.image_parts.proofs.Nodes.{nodes-length, block-at-length}
+use Rattle.image_parts.proofs.Nodes.{node-at-length, block-at-length}
 
 -- ---- runs: together they are the list, and they are no more than its elements
 module _ (alike : ℕ → ℕ → Bool) where
@@ -52,23 +53,15 @@ module _ (order : ℕ) (keys tags : List ℕ) (root : ℕ) (c : Columns) (weight
   node = nodeAt keys tags (c .left) (c .right) (c .rank) (c .count)
 
   -- ---- lengths
-  parts-length : (rs : List (List ℕ)) → length (flatMap (blockAt keys tags root c) rs) ≡ blockBytes * length rs + length (flatMap node (flatMap (λ r. r) rs))
-  unfolding flatMap
-  parts-length [] = refl
-  parts-length (r ∷ rs) =
-      let apart = ap length (flatMap-append node r (flatMap (λ s. s) rs)) in
-      length-append (blockAt keys tags root c r) (flatMap (blockAt keys tags root c) rs)
-      ∙ omega (arith, apart, length-append (flatMap node r) (flatMap node (flatMap (λ s. s) rs)), block-at-length keys tags root c r, parts-length rs)
-
   blocks-length : length (blocksAt keys tags root c weights sorted)
       ≡ blockBytes * length (runs (sameWeight weights) sorted) + nodeBytes * length sorted + measureBytes * length (keep (measuredAt tags) sorted)
-  unfolding blocksAt
+  unfolding blocksAt measuredAt
   blocks-length =
       omega (
         arith,
-        parts-length (runs (sameWeight weights) sorted),
+        parts-length node (blockAt keys tags root c) (λ r. r) (block-at-length keys tags root c) (runs (sameWeight weights) sorted),
         ap (λ (xs : List ℕ). length (flatMap node xs)) (runs-whole (sameWeight weights) sorted),
-        nodes-length keys tags (c .left) (c .right) (c .rank) (c .count) sorted,
+        nodes-length node (λ i. lengthIn (getD tags i 0)) (node-at-length keys tags (c .left) (c .right) (c .rank) (c .count)) sorted,
       )
 
   module _ (blocks measured : ℕ) (counted : blocks ≡ length (runs (sameWeight weights) sorted)) (found : measured ≡ length (keep (measuredAt tags) sorted)) (all : length sorted ≡ length keys) where

@@ -17,11 +17,10 @@ use Rattle.lists.proofs.Sorted.{sorted-length}
 use Rattle.lists.proofs.Start.{starts-with}
 use Rattle.lists.proofs.Overwrite.{overwrite-start}
 use Rattle.lists.proofs.Parts.{overwrite-again}
-use Rattle.measure.specs.Measure.{isMeasure}
 use Rattle.measure.specs.Tag.{tagOf}
 use Rattle.treap.specs.Image.{orderBytes}
 use Rattle.table.specs.Layout.{mostSlots, leastOrder, greatestOrder}
-use Rattle.table.specs.Contents.{Entry, tableOrder, risingKeys, entryKeys, keysIn, keyBelow}
+use Rattle.table.specs.Contents.{Entry, tableOrder, risingKeys, entryKeys, keysIn, keyBelow, rightMeasure}
 use Rattle.table.specs.Tags.{entryTags, tagsIn, tagged}
 use Rattle.table.proofs.Entries.{sorted-keys}
 use Rattle.table.proofs.Tagged.{tagged-back}
@@ -29,7 +28,7 @@ use Rattle.table_decode.specs.Decode.{TagsSorted}
 use Rattle.table_decode.proofs.RisingKeys.{rising-says}
 use Rattle.table_prepare.specs.Prepared.{Keys}
 use Rattle.table_prepare.proofs.Writable.{writable}
-use Rattle.image.specs.Layout.{orderAt, IsByte}
+use Rattle.image.specs.Layout.{orderAt, mostBytes, IsByte}
 use Rattle.image.specs.Image.{imageOf, fieldAt, readImage, isImage}
 use Rattle.image.proofs.Judging.{is-image-says, is-image-exactly}
 use Rattle.image.proofs.Lengths.{image-longest}
@@ -58,13 +57,13 @@ module _ (bytes : List ℕ) where
   keys-are = ap entryKeys entries-are ∙ sorted-keys (entriesOf bytes)
 
   -- measures that can be read are within the rules
-  pub shown-right : (room : ℕ) → readable room bytes ≡ true → All (λ e. isMeasure (e .measure) ≡ true) (readImage bytes .entries)
+  pub shown-right : (room : ℕ) → readable room bytes ≡ true → All (λ e. rightMeasure e ≡ true) (readImage bytes .entries)
   shown-right room can =
-      subst (All (λ e. isMeasure (e .measure) ≡ true)) (sym entries-are)
-      (all-permuted (λ e. isMeasure (e .measure) ≡ true) (Permᴰ·symm (sortBy-permutes keyBelow (entriesOf bytes))) (readable-right room bytes can))
+      subst (All (λ e. rightMeasure e ≡ true)) (sym entries-are)
+      (all-permuted (λ e. rightMeasure e ≡ true) (Permᴰ·symm (sortBy-permutes keyBelow (entriesOf bytes))) (readable-right room bytes can))
 
   -- the keys with their tags are the set that the bytes show
-  pub shown-tagged : All (λ e. isMeasure (e .measure) ≡ true) (readImage bytes .entries) → tagged orderShown (keysIn (readImage bytes)) (tagsIn (readImage bytes)) ≡ readImage bytes
+  pub shown-tagged : All (λ e. rightMeasure e ≡ true) (readImage bytes .entries) → tagged orderShown (keysIn (readImage bytes)) (tagsIn (readImage bytes)) ≡ readImage bytes
   shown-tagged right = λ i. record { order = sym order-is i; entries = tagged-back (readImage bytes .entries) right i }
 
   -- ---- bytes that are no image
@@ -100,12 +99,12 @@ module _ (bytes : List ℕ) where
       (λ t.
       let ks = keysIn (readImage bytes) in
       true-or-false (same bytes (imageOf (readImage bytes)))
-      (and-right (every (λ e. isMeasure (e .measure)) (readImage bytes .entries)) _
+      (and-right (every rightMeasure (readImage bytes .entries)) _
       (and-right (leb (length ks) mostSlots) _
       (and-right (every nonzero ks) _ (and-right (risesB ks) _ (and-right (tableOrder (readImage bytes .order)) _ t)))))
       e)
 
-  pub too-long : All IsByte bytes → 204815 < length bytes → isImage bytes ≡ false
+  pub too-long : All IsByte bytes → mostBytes < length bytes → isImage bytes ≡ false
   too-long sized h =
       refuted
       (λ t.
@@ -129,7 +128,7 @@ module _ (bytes : List ℕ) where
         let keys = rising-says (keysIn (readImage bytes)) rise in
         writable orderShown (keysIn (readImage bytes)) order (keys .0) (keys .1) few
 
-    pub is-one : All (λ e. isMeasure (e .measure) ≡ true) (readImage bytes .entries) → same bytes (imageOf (readImage bytes)) ≡ true → isImage bytes ≡ true
+    pub is-one : All (λ e. rightMeasure e ≡ true) (readImage bytes .entries) → same bytes (imageOf (readImage bytes)) ≡ true → isImage bytes ≡ true
     unfolding isImage tableOrder risingKeys
     is-one right e =
         let ks = keysIn (readImage bytes) in
@@ -137,7 +136,7 @@ module _ (bytes : List ℕ) where
         (and-both (risesB ks) _ (and-left (risesB ks) (every nonzero ks) rise)
         (and-both (every nonzero ks) _ (and-right (risesB ks) (every nonzero ks) rise)
         (and-both (leb (length ks) mostSlots) _ (le-leb (length ks) mostSlots few)
-        (and-both (every (λ e. isMeasure (e .measure)) (readImage bytes .entries)) _ (every-when (λ e. isMeasure (e .measure)) (readImage bytes .entries) right) e))))
+        (and-both (every rightMeasure (readImage bytes .entries)) _ (every-when rightMeasure (readImage bytes .entries) right) e))))
 
   pub accepted : isImage bytes ≡ true → (n : ℕ) → n ≡ length (keysIn (readImage bytes)) → Image n ≡ recognized bytes
   unfolding recognized

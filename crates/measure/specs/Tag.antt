@@ -10,15 +10,18 @@ unfoldable pub isStored : ℕ → ℕ → Bool
 isStored length stored =
     cond (eqb length 0) (eqb stored 0) (lies leastLength greatestLength length && leb stored (greatestCorrection + greatestCorrection))
 
--- A length and a stored correction in one number, and the two in it.
+-- A length and a stored correction in one number, and the two in it: a stored correction is below this number.
+abbrev pub storedValues : ℕ
+storedValues = 65536
+
 unfoldable pub tagFrom : ℕ → ℕ → ℕ
-tagFrom length stored = length * 65536 + stored
+tagFrom length stored = length * storedValues + stored
 
 unfoldable pub lengthIn : ℕ → ℕ
-lengthIn tag = tag / 65536
+lengthIn tag = tag / storedValues
 
 unfoldable pub storedIn : ℕ → ℕ
-storedIn tag = tag % 65536
+storedIn tag = tag % storedValues
 
 -- The tag of a measure, the measure of a tag, and the tags of measures within the rules.
 unfoldable pub tagOf : Measure → ℕ

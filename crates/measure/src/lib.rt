@@ -8,7 +8,7 @@ ghost use lib.ListN.{length};
 ghost use lib.IntN.{pos, natAbs, _+ℤ_};
 ghost use Rattle.lists.specs.Lists.{every, overwrite};
 ghost use Rattle.measure.specs.Measure.{greatestCorrection, leastCorrection, liesZ, isMeasure, measureFrom, measuresBeside};
-ghost use Rattle.measure.specs.Tag.{isStored, tagFrom, tagOf, lengthIn, storedIn};
+ghost use Rattle.measure.specs.Tag.{storedValues, isStored, tagFrom, tagOf, lengthIn, storedIn};
 
 const LEAST_LENGTH: u64 = 10000;
 
@@ -21,6 +21,9 @@ const GREATEST_CORRECTION: i32 = 5000;
 const GREATEST_STORED: u64 = 10000;
 
 const STORED_VALUES: u64 = 65536;
+
+// The tag of what is not measured.
+pub const UNMEASURED: u64 = 0;
 
 // Whether a signed number lies from `low` to `high`, both included.
 fn is_between(number: i32, low: i32, high: i32) -> bool
@@ -91,14 +94,14 @@ pub fn tag_of(length: u64, correction: i32) -> u64
     ensures { λ r. ⌜ r ≡ tagOf (record { length = length; correction = correction }) ⌝ }
 {
     if length == 0 {
-        return 0;
+        return UNMEASURED;
     }
     tag_from(length, raised(correction))
 }
 
 // The correction that a length and a stored correction show.
 pub fn correction_from(length: u64, stored: u64) -> i64
-    requires { ⌜ stored < 65536 ⌝ }
+    requires { ⌜ stored < storedValues ⌝ }
     ensures { λ r. ⌜ r ≡ measureFrom length stored .correction ⌝ }
 {
     if length == 0 {

@@ -8,7 +8,7 @@ use mathlib.Core.Path.{_≡_, refl, sym, ap, ap₂, _∙_, subst}
 use Prim.Native.Nat.{ℕ, zero, suc, _≤_, _<_}
 use native.Mathlib.Omega.{arith}
 use lib.Dec.{eqb, ltb}
-use lib.ListN.{length, getD, take, length-map}
+use lib.ListN.{length, getD, length-map}
 use borrow.Author.Tests.{eq-eqb, ne-eqb, eqb-false}
 use Rattle.lists.specs.Lists.{All, Rising, member, insertBy, sortBy}
 use Rattle.lists.proofs.Tests.{by-test, or-false-left, or-false-right}
@@ -18,7 +18,7 @@ use Rattle.lists.proofs.Sorting.{all-permuted, sortBy-permutes}
 use Rattle.lists.proofs.Sorted.{sorted-unique, sorted-rising-fixed}
 use Rattle.measure.specs.Measure.{Measure, unmeasured, isMeasure}
 use Rattle.measure.proofs.Stored.{unmeasured-right}
-use Rattle.table.specs.Contents.{Entry, entryKeys, measureIn, keyBelow, entriesWith}
+use Rattle.table.specs.Contents.{Entry, entryKeys, measureIn, keyBelow, entriesWith, rightMeasure}
 
 -- ---- sorted by key
 pub inserted-keys : (e : Entry) (es : List Entry) → entryKeys (insertBy keyBelow e es) ≡ insertBy ltb (e .key) (entryKeys es)
@@ -32,19 +32,18 @@ sorted-keys [] = refl
 sorted-keys (e ∷ es) = inserted-keys e (sortBy keyBelow es) ∙ ap (insertBy ltb (e .key)) (sorted-keys es)
 
 -- ---- found by their keys
-passed-by : (e : Entry) (es : List Entry) → All (λ k. e .key < k) (entryKeys es) → All (λ f. measureIn es (f .key) ≡ f .measure) es
-    → (fs : List Entry) → All (λ k. e .key < k) (entryKeys fs) → All (λ f. measureIn es (f .key) ≡ f .measure) fs
+passed-by : (e : Entry) (es fs : List Entry) → All (λ k. e .key < k) (entryKeys fs) → All (λ f. measureIn es (f .key) ≡ f .measure) fs
     → All (λ f. measureIn (e ∷ es) (f .key) ≡ f .measure) fs
-passed-by e es above found [] h g = tt
-passed-by e es above found (f ∷ fs) h g =
+passed-by e es [] h g = tt
+passed-by e es (f ∷ fs) h g =
     let apart : e .key ≢ f .key = λ same. omega (arith, h .0) in
-    (rw (ne-eqb (e .key) (f .key) apart) (g .0), passed-by e es above found fs (h .1) (g .1))
+    (rw (ne-eqb (e .key) (f .key) apart) (g .0), passed-by e es fs (h .1) (g .1))
 
 pub found-self : (es : List Entry) → Rising (entryKeys es) → All (λ e. measureIn es (e .key) ≡ e .measure) es
 found-self [] h = tt
 found-self (e ∷ es) h =
     let later = found-self es (h .1) in
-    (rw (eq-eqb (e .key) (e .key) refl), passed-by e es (h .0) later es (h .0) later)
+    (rw (eq-eqb (e .key) (e .key) refl), passed-by e es es (h .0) later)
 
 -- none is found for a key that is not among them
 pub not-found : (es : List Entry) (key : ℕ) → member key (entryKeys es) ≡ false → measureIn es key ≡ unmeasured
@@ -54,7 +53,7 @@ not-found (e ∷ es) key h =
     rw (ne-eqb (e .key) key apart) (not-found es key (or-false-right (eqb key (e .key)) (member key (entryKeys es)) h))
 
 -- what is found is within the rules, where all measures are
-pub found-right : (es : List Entry) (key : ℕ) → All (λ e. isMeasure (e .measure) ≡ true) es → isMeasure (measureIn es key) ≡ true
+pub found-right : (es : List Entry) (key : ℕ) → All (λ e. rightMeasure e ≡ true) es → isMeasure (measureIn es key) ≡ true
 found-right [] key h = unmeasured-right
 found-right (e ∷ es) key h = by-test (eqb (e .key) key) (λ t. rw t (h .0)) (λ t. rw t (found-right es key (h .1)))
 
@@ -97,36 +96,14 @@ with-keys [] measures = refl
 with-keys (k ∷ keys) [] = ap (λ (ks : List ℕ). k ∷ ks) (with-keys keys [])
 with-keys (k ∷ keys) (m ∷ measures) = ap (λ (ks : List ℕ). k ∷ ks) (with-keys keys measures)
 
-pub with-measures : (keys : List ℕ) (measures : List Measure) → length measures ≡ length keys → map (λ e. e .measure) (entriesWith keys measures) ≡ measures
-with-measures [] [] e = refl
-with-measures [] (m ∷ measures) e = absurd (omega arith)
-with-measures (k ∷ keys) [] e = absurd (omega arith)
-with-measures (k ∷ keys) (m ∷ measures) e = ap (λ (ms : List Measure). m ∷ ms) (with-measures keys measures (omega arith))
-
-pub taken-apart : (es : List Entry) → entriesWith (entryKeys es) (map (λ e. e .measure) es) ≡ es
-taken-apart [] = refl
-taken-apart (e ∷ es) = ap (λ (fs : List Entry). e ∷ fs) (taken-apart es)
-
 pub with-length : (keys : List ℕ) (measures : List Measure) → length (entriesWith keys measures) ≡ length keys
 with-length keys measures = sym (length-map (entriesWith keys measures) (λ e. e .key)) ∙ ap length (with-keys keys measures)
 
 pub with-right : (keys : List ℕ) (measures : List Measure) → All (λ m. isMeasure m ≡ true) measures
-    → All (λ e. isMeasure (e .measure) ≡ true) (entriesWith keys measures)
+    → All (λ e. rightMeasure e ≡ true) (entriesWith keys measures)
 with-right [] measures h = tt
 with-right (k ∷ keys) [] h = (unmeasured-right, with-right keys [] h)
 with-right (k ∷ keys) (m ∷ measures) h = (h .0, with-right keys measures (h .1))
-
-nothing-taken : (n : ℕ) → take {A = Measure} n [] ≡ []
-nothing-taken zero = refl
-nothing-taken (suc n) = refl
-
-pub with-taken : (n : ℕ) (keys : List ℕ) (measures : List Measure) → entriesWith (take n keys) (take n measures) ≡ take n (entriesWith keys measures)
-with-taken zero keys measures = refl
-with-taken (suc n) [] measures = refl
-with-taken (suc n) (k ∷ keys) [] =
-    ap (λ (fs : List Entry). record { key = k; measure = unmeasured } ∷ fs)
-    (ap (entriesWith (take n keys)) (sym (nothing-taken n)) ∙ with-taken n keys [])
-with-taken (suc n) (k ∷ keys) (m ∷ measures) = ap (λ (fs : List Entry). record { key = k; measure = m } ∷ fs) (with-taken n keys measures)
 
 -- the measure beside a key is found for it
 pub found-beside : (keys : List ℕ) (measures : List Measure) (i : ℕ) → Rising keys → i < length keys

@@ -11,15 +11,14 @@ use Rattle.lists.specs.Lists.{nonzero, keep, sortBy, All, upFrom}
 use Rattle.lists.proofs.Tests.{by-test}
 use Rattle.lists.proofs.Keep.{all-map}
 use Rattle.lists.proofs.UpFrom.{upFrom-within}
-use Rattle.measure.specs.Measure.{isMeasure}
 use Rattle.table.specs.Layout.{keyIn}
-use Rattle.table.specs.Contents.{Entry, Contents, keysIn, keyBelow, IsKey, Valid}
+use Rattle.table.specs.Contents.{Entry, Contents, keysIn, keyBelow, IsKey, Valid, rightMeasure}
 use Rattle.table.specs.Table.{fresh, entryIn, heldEntries, contentsOf}
 use Rattle.table.proofs.Entries.{entryAt, found-right, entries-by-keys, sorted-entries}
 use Rattle.table.proofs.Words.{slotKeys, placedKeys, fresh-order, fresh-keys, fresh-measure}
 use Rattle.table.proofs.Held.{held-keys-permute}
 
-module _ (many : ℕ) (c : Contents) (right : All (λ e. isMeasure (e .measure) ≡ true) (c .entries)) where
+module _ (many : ℕ) (c : Contents) (right : All (λ e. rightMeasure e ≡ true) (c .entries)) where
   -- the entry in a slot that is not empty
   entry-there : (s : ℕ) → s < many → keyIn (fresh many c) s ≢ 0 → entryIn (fresh many c) s ≡ entryAt (c .entries) (keyIn (fresh many c) s)
   unfolding entryIn

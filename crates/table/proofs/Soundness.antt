@@ -4,22 +4,18 @@ use mathlib.Core.Bool.{true, _&&_}
 use mathlib.Core.List.{List, [], _∷_, map}
 use mathlib.Core.Path.{_≡_, refl, sym, ap, _∙_, subst}
 use Prim.Native.Nat.{ℕ, _+_, _^_, _≤_, _<_}
-use native.Mathlib.Nat.{zero-add}
 use native.Mathlib.Omega.{arith}
 use lib.Dec.{eqb, ltb}
 use lib.ListN.{length, getD, length-map}
-use lib.Seq.{take-length}
 use Rattle.lists.specs.Lists.{nonzero, keep, every, All, sortBy, same, upFrom, risesB, Rising}
-use Rattle.lists.proofs.Copying.{kept}
 use Rattle.lists.proofs.Tests.{by-test, nonzero-says, and-left, and-right, and-both}
 use Rattle.lists.proofs.Keep.{all-map, all-both, all-always, all-mapped, all-keep, kept-pass, length-keep, every-says, every-when}
 use Rattle.lists.proofs.Membership.{same-says, same-when}
 use Rattle.lists.proofs.Rising.{rises-says, rises-when}
 use Rattle.lists.proofs.Sorted.{sorted-all, sorted-length}
-use Rattle.lists.proofs.UpFrom.{upFrom-length, mapped-upFrom-at}
-use Rattle.measure.specs.Measure.{isMeasure}
+use Rattle.lists.proofs.UpFrom.{upFrom-length}
 use Rattle.table.specs.Layout.{mostSlots, keyField, tableWords, slotStart, keyIn}
-use Rattle.table.specs.Contents.{Contents, entryKeys, keysIn, tableOrder, IsKey, Valid}
+use Rattle.table.specs.Contents.{Contents, entryKeys, keysIn, tableOrder, IsKey, Valid, rightMeasure}
 use Rattle.table.specs.Table.{fresh, Sound, entryIn, heldEntries, contentsOf}
 use Rattle.table.specs.Sound.{soundWith}
 use Rattle.table.proofs.Entries.{sorted-keys}
@@ -35,10 +31,6 @@ module _ (many : ℕ) (words : List ℕ) where
   pub slotKeys-length : length (slotKeys many words) ≡ many
   unfolding slotKeys
   slotKeys-length = length-map (upFrom 0 many) (keyIn words) ∙ upFrom-length 0 many
-
-  pub slotKeys-at : (slot : ℕ) → slot < many → getD (slotKeys many words) slot 0 ≡ keyIn words slot
-  unfolding slotKeys
-  slotKeys-at slot h = mapped-upFrom-at (keyIn words) 0 many slot h ∙ ap (keyIn words) (zero-add slot)
 
   slotKeys-sized : WordSized words → All (λ k. k < 2 ^ 64) (slotKeys many words)
   unfolding slotKeys
@@ -59,13 +51,6 @@ module _ (many : ℕ) (words : List ℕ) where
   held-keys sized =
       all-both (λ k. 1 ≤ k) (λ k. k < 2 ^ 64) (heldKeys many words) held-nonzero
       (all-keep (λ k. k < 2 ^ 64) nonzero (slotKeys many words) (slotKeys-sized sized))
-
-  -- once all slots are passed, those kept are all that are held
-  pub held-kept : kept nonzero (slotKeys many words) many ≡ heldKeys many words
-  unfolding heldKeys
-  held-kept =
-      let slots = slotKeys many words in
-      ap (kept nonzero slots) (sym slotKeys-length) ∙ ap (keep nonzero) (take-length slots)
 
   -- the entries held, and their keys
   entries-keys : (slots : List ℕ) → entryKeys (keep (λ e. nonzero (e .key)) (map (entryIn words) slots)) ≡ keep nonzero (map (keyIn words) slots)
@@ -102,21 +87,21 @@ module _ (many : ℕ) (words : List ℕ) where
 -- ---- the test
 module _ (many : ℕ) (words : List ℕ) (passed : soundWith many words ≡ true) where
   rest-passed : (risesB (keysIn (contentsOf many words))
-      && (every (λ e. isMeasure (e .measure)) (contentsOf many words .entries) && same words (fresh many (contentsOf many words)))) ≡ true
+      && (every rightMeasure (contentsOf many words .entries) && same words (fresh many (contentsOf many words)))) ≡ true
   unfolding soundWith
   rest-passed = and-right (tableOrder (contentsOf many words .order)) _ passed
 
-  last-passed : (every (λ e. isMeasure (e .measure)) (contentsOf many words .entries) && same words (fresh many (contentsOf many words))) ≡ true
+  last-passed : (every rightMeasure (contentsOf many words .entries) && same words (fresh many (contentsOf many words))) ≡ true
   last-passed = and-right (risesB (keysIn (contentsOf many words))) _ rest-passed
 
   pub sound-exactly : words ≡ fresh many (contentsOf many words)
   sound-exactly =
-      same-says words (fresh many (contentsOf many words)) (and-right (every (λ e. isMeasure (e .measure)) (contentsOf many words .entries)) _ last-passed)
+      same-says words (fresh many (contentsOf many words)) (and-right (every rightMeasure (contentsOf many words .entries)) _ last-passed)
 
-  pub sound-measures : All (λ e. isMeasure (e .measure) ≡ true) (contentsOf many words .entries)
+  pub sound-measures : All (λ e. rightMeasure e ≡ true) (contentsOf many words .entries)
   sound-measures =
-      every-says (λ e. isMeasure (e .measure)) (contentsOf many words .entries)
-      (and-left (every (λ e. isMeasure (e .measure)) (contentsOf many words .entries)) _ last-passed)
+      every-says rightMeasure (contentsOf many words .entries)
+      (and-left (every rightMeasure (contentsOf many words .entries)) _ last-passed)
 
   pub sound-order : tableOrder (contentsOf many words .order) ≡ true
   unfolding soundWith
@@ -152,7 +137,7 @@ fresh-passes many c some valid =
     rw (contents-of-fresh many c some valid)
     (and-both (tableOrder (c .order)) _ (valid .order-right)
     (and-both (risesB (keysIn c)) _ (rises-when (keysIn c) (valid .keys-rise))
-    (and-both (every (λ e. isMeasure (e .measure)) (c .entries)) _ (every-when (λ e. isMeasure (e .measure)) (c .entries) (valid .measures-right))
+    (and-both (every rightMeasure (c .entries)) _ (every-when rightMeasure (c .entries) (valid .measures-right))
     (same-when (fresh many c) (fresh many c) refl))))
 
 pub sound-when : (many : ℕ) (words : List ℕ) → Sound words → length words ≡ tableWords many → soundWith many words ≡ true

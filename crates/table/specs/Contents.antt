@@ -32,6 +32,10 @@ abbrev pub measureIn : List Entry → ℕ → Measure
 measureIn [] key = unmeasured
 measureIn (e ∷ entries) key = cond (eqb (e .key) key) (e .measure) (measureIn entries key)
 
+-- Its measure is within the rules.
+abbrev pub rightMeasure : Entry → Bool
+rightMeasure e = isMeasure (e .measure)
+
 -- The key of one entry is below that of another.
 unfoldable pub keyBelow : Entry → Entry → Bool
 keyBelow e f = ltb (e .key) (f .key)
@@ -64,4 +68,4 @@ pub record Valid (most : ℕ) (c : Contents) : Type 0 where
   pub keys-right : All IsKey (keysIn c)
   pub keys-rise : Rising (keysIn c)
   pub keys-fit : length (keysIn c) ≤ most
-  pub measures-right : All (λ e. isMeasure (e .measure) ≡ true) (c .entries)
+  pub measures-right : All (λ e. rightMeasure e ≡ true) (c .entries)

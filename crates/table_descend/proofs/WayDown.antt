@@ -88,9 +88,6 @@ module _ (many : ℕ) (c : Contents) (valid : Valid many c) where
   positive : All (λ k. 1 ≤ k) ks
   positive = all-map IsKey (λ k. 1 ≤ k) (λ k h. h .0) ks (valid .keys-right)
 
-  pub key-positive : (k : ℕ) → member k ks ≡ true → k ≢ 0
-  key-positive k m e = let h = all-member (λ k. 1 ≤ k) ks k positive m in omega arith
-
   -- a link of a key is a key, where it is not zero
   pub link-held : (at : ℕ) → member at ks ≡ true → (q there : ℕ) → there ≡ nextKey ks at q → there ≢ 0 → member there ks ≡ true
   link-held at m q there e d =

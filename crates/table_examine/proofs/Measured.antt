@@ -15,7 +15,7 @@ use Rattle.measure.specs.Measure.{isMeasure}
 use Rattle.measure.specs.Tag.{isStored}
 use Rattle.measure.proofs.Stored.{stored-measures, measure-stored}
 use Rattle.table.specs.Layout.{lengthField, correctionField, slotStart}
-use Rattle.table.specs.Contents.{Contents, measureIn, keyBelow}
+use Rattle.table.specs.Contents.{Contents, measureIn, keyBelow, rightMeasure}
 use Rattle.table.specs.Table.{slotOf, fresh, entryIn, heldEntries, contentsOf}
 use Rattle.table.specs.Sound.{soundWith}
 use Rattle.table.proofs.Entries.{found-right}
@@ -25,12 +25,12 @@ use Rattle.table_decode.specs.Decode.{storedAt, allStored}
 
 module _ (many : ℕ) (words : List ℕ) where
   -- where the words are, so are the measures
-  pub stored-right : allStored many words ≡ true → All (λ e. isMeasure (e .measure) ≡ true) (contentsOf many words .entries)
+  pub stored-right : allStored many words ≡ true → All (λ e. rightMeasure e ≡ true) (contentsOf many words .entries)
   unfolding contentsOf heldEntries entryIn allStored storedAt
   stored-right h =
-      all-permuted (λ e. isMeasure (e .measure) ≡ true) (Permᴰ·symm (sortBy-permutes keyBelow (heldEntries many words)))
-      (all-keep (λ e. isMeasure (e .measure) ≡ true) (λ e. nonzero (e .key)) (map (entryIn words) (upFrom 0 many))
-      (all-mapped (λ e. isMeasure (e .measure) ≡ true) (entryIn words) (upFrom 0 many)
+      all-permuted (λ e. rightMeasure e ≡ true) (Permᴰ·symm (sortBy-permutes keyBelow (heldEntries many words)))
+      (all-keep (λ e. rightMeasure e ≡ true) (λ e. nonzero (e .key)) (map (entryIn words) (upFrom 0 many))
+      (all-mapped (λ e. rightMeasure e ≡ true) (entryIn words) (upFrom 0 many)
       (all-map (λ s. storedAt words s ≡ true) (λ s. isMeasure (entryIn words s .measure) ≡ true)
       (λ s. stored-measures (getD words (slotStart s + lengthField) 0) (getD words (slotStart s + correctionField) 0))
       (upFrom 0 many) (every-says (storedAt words) (upFrom 0 many) h))))
@@ -40,13 +40,13 @@ unfolding isStored
 nothing-stored = refl
 
 -- the words of a slot are those of a measure within the rules, where all measures are
-slot-stored : (c : Contents) → All (λ e. isMeasure (e .measure) ≡ true) (c .entries) → (k : ℕ)
+slot-stored : (c : Contents) → All (λ e. rightMeasure e ≡ true) (c .entries) → (k : ℕ)
     → isStored (getD (slotOf c k) lengthField 0) (getD (slotOf c k) correctionField 0) ≡ true
 unfolding slotOf
 slot-stored c right k =
     by-test (eqb k 0) (λ t. rw t nothing-stored) (λ t. rw t (measure-stored (measureIn (c .entries) k) (found-right (c .entries) k right)))
 
-fresh-stored : (many : ℕ) (c : Contents) → All (λ e. isMeasure (e .measure) ≡ true) (c .entries) → allStored many (fresh many c) ≡ true
+fresh-stored : (many : ℕ) (c : Contents) → All (λ e. rightMeasure e ≡ true) (c .entries) → allStored many (fresh many c) ≡ true
 unfolding allStored storedAt
 fresh-stored many c right =
     every-when (storedAt (fresh many c)) (upFrom 0 many)

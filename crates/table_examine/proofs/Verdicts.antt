@@ -9,9 +9,8 @@ use Rattle.lists.specs.Lists.{All, lies, risesB, same, overwrite}
 use Rattle.lists.proofs.Keep.{every-when}
 use Rattle.lists.proofs.Rising.{rises-says}
 use Rattle.lists.proofs.Start.{starts-with}
-use Rattle.measure.specs.Measure.{isMeasure}
 use Rattle.table.specs.Layout.{mostSlots, leastOrder, greatestOrder, orderWord}
-use Rattle.table.specs.Contents.{Entry, keysIn, tableOrder}
+use Rattle.table.specs.Contents.{Entry, keysIn, tableOrder, rightMeasure}
 use Rattle.table.specs.Tags.{tagsIn, entriesTagged, tagged}
 use Rattle.table.specs.Table.{fresh, contentsOf}
 use Rattle.table.specs.Sound.{soundWith}
@@ -48,9 +47,9 @@ module _ (many : ℕ) (words : List ℕ) where
   keys-do-not-rise right e = rw (right, e)
 
   pub decided : lies leastOrder greatestOrder (getD words orderWord 0) ≡ true → risesB (keysIn (contentsOf many words)) ≡ true
-      → All (λ e. isMeasure (e .measure) ≡ true) (contentsOf many words .entries) → soundWith many words ≡ same words (fresh many (contentsOf many words))
+      → All (λ e. rightMeasure e ≡ true) (contentsOf many words .entries) → soundWith many words ≡ same words (fresh many (contentsOf many words))
   unfolding soundWith contentsOf tableOrder
-  decided right e measures = rw (right, e, every-when (λ f. isMeasure (f .measure)) (contentsOf many words .entries) measures)
+  decided right e measures = rw (right, e, every-when rightMeasure (contentsOf many words .entries) measures)
 
   pub unsound : soundWith many words ≡ false → Unsound ≡ verdictOf many words
   unfolding verdictOf
@@ -90,7 +89,7 @@ module _ (many : ℕ) (words : List ℕ) where
       (omega (arith, shown-fit many words))
 
   pub compared : (keys tags : List ℕ) → keys ≡ keysIn (contentsOf many words) → tags ≡ tagsIn (contentsOf many words)
-      → All (λ e. isMeasure (e .measure) ≡ true) (contentsOf many words .entries)
+      → All (λ e. rightMeasure e ≡ true) (contentsOf many words .entries)
       → same words (fresh many (tagged (getD words orderWord 0) keys tags)) ≡ same words (fresh many (contentsOf many words))
   unfolding contentsOf
   compared keys tags e f right =

@@ -19,7 +19,7 @@ use Rattle.treap.specs.Image.{orderBytes, countBytes, keyBytes, headerRecord, b
 use Rattle.treap_structure.proofs.Blocks.{Holds, blocks-hold}
 use Rattle.table.specs.Layout.{mostSlots}
 use Rattle.table.specs.Contents.{Contents, Valid, keysIn, measureIn}
-use Rattle.image.specs.Layout.{headerBytes, blockBytes, orderAt, sizeAt, blocksAt, rootAt, heldAt, IsByte}
+use Rattle.image.specs.Layout.{headerBytes, blockBytes, orderAt, sizeAt, blocksAt, rootAt, heldAt, mostBytes, IsByte}
 use Rattle.image.specs.Image.{imageOf, readImage, isImage, fieldAt, nodesSpan}
 use Rattle.image.proofs.Judging.{is-image-says}
 use Rattle.image.proofs.Records.{header-length, header-order, header-blocks, header-dropped, block-held, block-dropped, node-key}
@@ -27,7 +27,7 @@ use Rattle.image.proofs.Lengths.{blockPart-length, order-within, image-longest}
 use Rattle.image.proofs.Reading.{nodeOf-left, nodes-first, nodes-span}
 use Rattle.image.proofs.Fits.{HeaderFits, BlockFits, NodeFits, header-fits, blocks-fit-fields, nodes-fit-fields}
 use Rattle.text_listing.specs.Listing.{keyLineOf, blockLines, listing, listingOf}
-use Rattle.text_listing.specs.Shown.{shownKey, shownKeys, heldIn, partBytes, shownBlockLine, shownBlock, shownBlocks, shown, HasBlocks, HasRecords, mostBytes}
+use Rattle.text_listing.specs.Shown.{shownKey, shownKeys, heldIn, partBytes, shownBlockLine, shownBlock, shownBlocks, shown, HasBlocks, HasRecords}
 use Rattle.text_listing.proofs.RecordFields.{header-size, header-root, block-leader, block-level, node-rank, node-count}
 use Rattle.text_listing.proofs.Walking.{key-line-shown, block-line-shown, header-line-shown}
 

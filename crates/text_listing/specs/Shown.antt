@@ -4,8 +4,7 @@ use Prim.Native.Nat.{ℕ, zero, suc, _+_, _≤_, _<_}
 use lib.ListN.{length, drop}
 use Rattle.treap.specs.Image.{orderBytes, countBytes, keyBytes}
 use Rattle.treap.specs.Blocks.{fill}
-use Rattle.table.specs.Layout.{mostSlots}
-use Rattle.image.specs.Layout.{imageBytes, headerBytes, blockBytes, orderAt, sizeAt, blocksAt, rootAt, leaderAt, levelAt, heldAt, keyAt, rankAt, countAt}
+use Rattle.image.specs.Layout.{headerBytes, blockBytes, orderAt, sizeAt, blocksAt, rootAt, leaderAt, levelAt, heldAt, keyAt, rankAt, countAt}
 use Rattle.image.specs.Image.{fieldAt, nodeSpan, nodesSpan}
 use Rattle.text_lines.specs.Lines.{headerLine, blockLine, keyLine}
 
@@ -64,10 +63,6 @@ pub record HasRecords (bytes : List ℕ) : Type 0 where
   pub keys-most : fieldAt sizeAt countBytes bytes < 65536
   pub blocks-most : fieldAt blocksAt countBytes bytes < 65536
   pub blocks : HasBlocks (fieldAt blocksAt countBytes bytes) (drop headerBytes bytes)
-
--- The bytes of the longest image.
-abbrev pub mostBytes : ℕ
-mostBytes = imageBytes mostSlots mostSlots mostSlots
 
 -- No line is longer than so many times the record that it shows.
 abbrev pub mostGrowth : ℕ

@@ -2,9 +2,9 @@
 ghost use mathlib.Core.Path.{_≡_};
 ghost use Prim.Native.Nat.{_*_, _≤_};
 ghost use lib.ListN.{length};
-ghost use Rattle.image.specs.Layout.{headerBytes, nodeBytes};
+ghost use Rattle.image.specs.Layout.{headerBytes, nodeBytes, mostBytes};
 ghost use Rattle.image.specs.Image.{nodesSpan};
-ghost use Rattle.text_listing.specs.Shown.{shownKey, shownKeys, partBytes, shownBlock, shownBlocks, HasBlocks, shownHeader, shown, HasRecords, mostBytes, mostGrowth};
+ghost use Rattle.text_listing.specs.Shown.{shownKey, shownKeys, partBytes, shownBlock, shownBlocks, HasBlocks, shownHeader, shown, HasRecords, mostGrowth};
 use crate::block_end;
 use crate::fill_of;
 use image::BLOCK_BYTES;

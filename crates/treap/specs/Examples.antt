@@ -4,9 +4,10 @@ use mathlib.Core.Bool.{cond, not}
 use mathlib.Core.List.{List, [], _∷_, _++_, map}
 use Prim.Native.Nat.{ℕ, suc}
 use lib.Dec.{eqb}
+use lib.IntN.{pos, negℤ}
 use lib.ListN.{length, take}
 use Rattle.lists.specs.Lists.{keep, member}
-use Rattle.measure.specs.Measure.{unmeasured}
+use Rattle.measure.specs.Measure.{Measure, unmeasured}
 use Rattle.treap.specs.Levels.{rank, count, leader}
 use Rattle.treap.specs.Blocks.{Block, blocks, parents, fill, blocksMet, blocksMetByAll}
 use Rattle.treap.specs.Slots.{slotsOf}
@@ -264,3 +265,25 @@ tied =
 
 abbrev pub examples : List Example
 examples = none ∷ lone ∷ pair ∷ chain ∷ deep ∷ five ∷ six ∷ wrapped ∷ tied ∷ []
+
+-- The image of example C's keys where 5 is measured (document 02, N4), length 26,500 and correction −250, and 9 is not:
+-- 4C48 03 0200 0100 09.. 4C42 09.. 0100 0200 4C4D 05.. -- -- 0000 0100 84670000 8E12 4C4E 09.. 05.. -- 0100 0100.
+abbrev pub fiveMeasured : ℕ → Measure
+fiveMeasured key = cond (eqb key 5) (record { length = 26500; correction = negℤ (pos 250) }) unmeasured
+
+abbrev nineInBytes : List ℕ
+nineInBytes = 9 ∷ 0 ∷ 0 ∷ 0 ∷ 0 ∷ 0 ∷ 0 ∷ 0 ∷ []
+
+abbrev pub measuredImage : List ℕ
+measuredImage =
+    (0x4C ∷ 0x48 ∷ 3 ∷ 2 ∷ 0 ∷ 1 ∷ 0 ∷ nineInBytes)
+    ++ (0x4C ∷ 0x42 ∷ nineInBytes)
+    ++ (1 ∷ 0 ∷ 2 ∷ 0 ∷ [])
+    ++ (0x4C ∷ 0x4D ∷ fiveInBytes)
+    ++ noneInBytes
+    ++ noneInBytes
+    ++ (0 ∷ 0 ∷ 1 ∷ 0 ∷ 0x84 ∷ 0x67 ∷ 0 ∷ 0 ∷ 0x8E ∷ 0x12 ∷ [])
+    ++ (0x4C ∷ 0x4E ∷ nineInBytes)
+    ++ fiveInBytes
+    ++ noneInBytes
+    ++ (1 ∷ 0 ∷ 1 ∷ 0 ∷ [])

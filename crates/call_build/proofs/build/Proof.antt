@@ -7,11 +7,13 @@ use native.Mathlib.Omega.{arith}
 use lib.IntN.{ℤ}
 use lib.ListN.{length}
 use borrow.Author.Tests.{not-true, not-false}
+use Rattle.measure.specs.Measure.{areMeasured}
+use Rattle.measure.proofs.Beside.{measured-says}
 use Rattle.table.specs.Layout.{mostSlots}
 use Rattle.table.specs.Contents.{newOrder, risingKeys}
 use Rattle.table_limits.specs.Lengths.{slotsFor}
 use Rattle.table_limits.proofs.Lengths.{slots-for-some}
-use Rattle.call_build.proofs.Building.{areMeasured, measured-says, refused-length, refused-order, refused-list, refused-measures, refused-many, accepted, can-be-written}
+use Rattle.call_build.proofs.Building.{refused-length, refused-order, refused-list, refused-measures, refused-many, accepted, can-be-written}
 use borrow.Author.Needs.{needs}
 use Rattle.call_build.proofs.build.Statement.{statement}
 use Rattle.call_build.proofs.build.Tie as tie

@@ -1,10 +1,11 @@
 -- `call_load::operate` meets its contract. Assumes nothing.
 use mathlib.Core.List.{List}
-use mathlib.Core.Path.{_≡_, sym, ap, _∙_}
+use mathlib.Core.Path.{_≡_, refl, sym, ap, _∙_}
 use Prim.Native.Nat.{ℕ, _<_}
 use native.Mathlib.Omega.{arith}
 use Rattle.lists.specs.Lists.{Rising}
-use Rattle.measure.proofs.Tags.{no-tag, no-tag-right}
+use Rattle.measure.specs.Tag.{isTag, isStored, lengthIn, storedIn}
+use Rattle.measure.proofs.Tags.{no-tag}
 use Rattle.table.specs.Contents.{keysIn, IsKey}
 use Rattle.table.specs.Table.{contentsOf}
 use Rattle.table.proofs.Soundness.{WordSized}
@@ -77,12 +78,13 @@ add-key : tie.Need-add-key
 add-key c = search needs
 
 insert-known-requires : tie.Need-insert-known-requires
+unfolding isTag isStored lengthIn storedIn
 insert-known-requires c κs =
     let p = c .before .before .before .before in
     let start = begun p in
     let few = room-left (key p) (keysIn (contentsOf (many p) (words p))) (load-key p) (start .pre .1 .0) (rises p) in (
       known p,
-      (omega arith, no-tag-right, λ absent (room : _ < _). omega (arith, start .pre .1 .1, few absent), λ absent (room : _ < _). omega (arith, start .pre .1 .2, few absent), start .pre .1 .3),
+      (omega arith, refl, λ absent (room : _ < _). omega (arith, start .pre .1 .1, few absent), λ absent (room : _ < _). omega (arith, start .pre .1 .2, few absent), start .pre .1 .3),
     )
 
 same-length : tie.Need-same-length

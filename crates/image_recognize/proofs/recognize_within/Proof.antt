@@ -7,12 +7,11 @@ use native.Mathlib.Omega.{arith}
 use lib.ListN.{length, take, drop, length-append}
 use lib.Seq.{length-take-le, take-at}
 use borrow.Author.Tests.{not-true, not-false}
-use Rattle.measure.specs.Measure.{isMeasure}
 use Rattle.lists.specs.Lists.{All, overwrite, same, lies}
 use Rattle.lists.proofs.Keep.{all-of-indices}
 use Rattle.lists.proofs.Start.{starts-with, as-long}
 use Rattle.table.specs.Layout.{mostSlots, leastOrder, greatestOrder}
-use Rattle.table.specs.Contents.{risingKeys, entryKeys, keysIn}
+use Rattle.table.specs.Contents.{risingKeys, entryKeys, keysIn, rightMeasure}
 use Rattle.table.specs.Tags.{entryTags, tagsIn, tagged, Beside}
 use Rattle.table.proofs.Tagged.{tags-beside}
 use Rattle.table_prepare.specs.Prepared.{Keys}
@@ -88,7 +87,7 @@ keys-collected p = read-at p .collect .ensures .1 .0 (was-readable p)
 tags-collected : (p : tie.After-found) → collected-tags (read-at p) ≡ overwrite (lent-tags (read-at p)) 0 (entryTags (entriesOf (bytes (read-at p))))
 tags-collected p = read-at p .collect .ensures .1 .1 (was-readable p)
 
-right : (p : tie.After-found) → All (λ e. isMeasure (e .measure) ≡ true) (readImage (bytes (read-at p)) .entries)
+right : (p : tie.After-found) → All (λ e. rightMeasure e ≡ true) (readImage (bytes (read-at p)) .entries)
 right p = shown-right (bytes (read-at p)) (length (lent (read-at p))) (was-readable p)
 
 -- ---- where the order is one

@@ -10,9 +10,8 @@ use borrow.Author.Tests.{not-true, not-false}
 use Rattle.lists.specs.Lists.{All, lies, risesB, same}
 use Rattle.lists.proofs.Start.{starts-with}
 use Rattle.lists.proofs.Tests.{true-or-false}
-use Rattle.measure.specs.Measure.{isMeasure}
 use Rattle.table.specs.Layout.{leastOrder, greatestOrder, orderWord}
-use Rattle.table.specs.Contents.{Contents, tableOrder, keysIn}
+use Rattle.table.specs.Contents.{Contents, tableOrder, keysIn, rightMeasure}
 use Rattle.table.specs.Tags.{tagsIn, tagged, Beside}
 use Rattle.table.specs.Table.{fresh, contentsOf}
 use Rattle.table.specs.Sound.{soundWith}
@@ -64,7 +63,7 @@ few p = omega (arith, p .read-keys .ensures .0, shown-fit (slots-in p) (words-in
 fits : (p : tie.After-read-keys) → p .read-keys .result ≤ length (list-in p)
 fits p = room (list-in p) (keysIn (contentsOf (slots-in p) (words-in p))) (p .read-keys .result) (read p) (sym (p .read-keys .ensures .0))
 
-measures : (p : tie.After-read-keys) → All (λ e. isMeasure (e .measure) ≡ true) (contentsOf (slots-in p) (words-in p) .entries)
+measures : (p : tie.After-read-keys) → All (λ e. rightMeasure e ≡ true) (contentsOf (slots-in p) (words-in p) .entries)
 measures p = stored-right (slots-in p) (words-in p) (begun p .pre .0 .5)
 
 -- ---- and once they are known to rise
