@@ -4,6 +4,8 @@
  * table is a function of its order, its number of slots and the set alone, however the set was reached. A table's image is a string of
  * bytes; two sound tables have equal images exactly when their orders and sets are equal, measures included.
  *
+ * Programs compiled with an earlier header must be compiled again: earlier ones declare other types under the same names.
+ *
  * The table.    BTREAP_TABLE_WORDS(M), that is 3 + 8*M words, for M slots, 1 to 4,096; it holds up to M keys. Make one of any words
  *               with btreap_set_up, btreap_build, btreap_read or btreap_load; then do not write to it but by these calls.
  * The order.    3 to 255, chosen at set-up, build or load: a block of the tree has up to about twice that many keys.
@@ -103,7 +105,8 @@ struct btreap_question {
 uint64_t btreap_set_up(uint64_t *table, size_t words, uint64_t order);
 
 /* Make of any words the table of an order and of n strictly rising keys, each with the length and the correction at its place of the two
- * other lists; these have as many entries as there are keys. Gives the refusal: 1, 2, 5, 12, 10. */
+ * other lists; these have as many entries as there are keys. For keys that are not measured lend lists of n zeros; empty lists beside keys
+ * are refused with 12. Gives the refusal: 1, 2, 5, 12, 10. */
 uint64_t btreap_build(uint64_t *table, size_t words, uint64_t order, const uint64_t *keys, size_t n, const uint64_t *lengths,
                       size_t lengths_n, const int32_t *corrections, size_t corrections_n);
 
@@ -122,8 +125,8 @@ struct btreap_ranked btreap_insert(uint64_t *table, size_t words, uint64_t key, 
 struct btreap_ranked btreap_delete(uint64_t *table, size_t words, uint64_t key);
 
 /* Look a key up: held is 1 or 0; rank, count and leader of a held key and its length and correction, zeros for an absent one; and how many
- * different blocks hold the keys that were compared on the way down. A key that is not measured has length 0 and correction 0.
- * Refusals: 1, 3, 7. */
+ * different blocks hold the keys that were compared on the way down. A key that is not measured has length 0 and correction 0. The
+ * correction fits an int32_t. Refusals: 1, 3, 7. */
 struct btreap_found btreap_lookup(const uint64_t *table, size_t words, uint64_t key);
 
 /* Look n keys up together, such as those of one order sheet: the table is judged once for all of them. The keys rise strictly, and none is

@@ -54,10 +54,31 @@ static void look_up(const uint64_t *table, uint64_t key)
         printf(", length %" PRIu64 ", correction %" PRId64 "\n", found.length, found.correction);
 }
 
-/* A measure outside the rules is turned down, and so is another one for a key that is held. */
-static void wrong_measures(uint64_t *table)
+/* Whether a key with this measure is taken, or refused for it. */
+static void try_measure(uint64_t length, int32_t correction)
 {
-    printf("length 9999: refused, %" PRIu64 "\n", btreap_insert(table, WORDS, 100, BTREAP_LEAST_LENGTH - 1, 0).refusal);
+    static uint64_t table[BTREAP_TABLE_WORDS(1)];
+    accept("set-up", btreap_set_up(table, BTREAP_TABLE_WORDS(1), 3));
+    uint64_t refusal = btreap_insert(table, BTREAP_TABLE_WORDS(1), 7, length, correction).refusal;
+    if (refusal != BTREAP_WRONG_MEASURE)
+        accept("insert", refusal);
+    printf("length %" PRIu64 ", correction %" PRId32 ": %s\n", length, correction, refusal == BTREAP_WRONG_MEASURE ? "refused" : "taken");
+}
+
+/* At each end of the rules a measure is taken, and one beyond it is refused. */
+static void ends_of_the_rules(void)
+{
+    try_measure(BTREAP_LEAST_LENGTH, BTREAP_LEAST_CORRECTION);
+    try_measure(BTREAP_GREATEST_LENGTH, BTREAP_GREATEST_CORRECTION);
+    try_measure(BTREAP_LEAST_LENGTH - 1, 0);
+    try_measure(BTREAP_GREATEST_LENGTH + 1, 0);
+    try_measure(BTREAP_LEAST_LENGTH, BTREAP_LEAST_CORRECTION - 1);
+    try_measure(BTREAP_GREATEST_LENGTH, BTREAP_GREATEST_CORRECTION + 1);
+}
+
+/* A key that is held is refused also with another measure. */
+static void another_measure(uint64_t *table)
+{
     printf("another measure: refused, %" PRIu64 "\n", btreap_insert(table, WORDS, 512, 26501, -120).refusal);
 }
 
@@ -124,7 +145,8 @@ int main(void)
     look_up(first, 512);
     look_up(first, 3000);
     look_up_together(first);
-    wrong_measures(first);
+    ends_of_the_rules();
+    another_measure(first);
 
     accept("read", btreap_read(third, WORDS, one, sent.size));
     printf("read back: %s\n", memcmp(third, first, sizeof first) == 0 ? "yes" : "no");

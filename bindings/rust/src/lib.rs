@@ -24,7 +24,7 @@ pub use sys::Question;
 /// The most slots that a table has.
 pub const MOST_SLOTS: usize = 4096;
 
-/// The bytes of the longest image: 4,096 measured keys, each in a block of its own.
+/// No image has more bytes.
 pub const LONGEST_IMAGE: usize = 15 + 50 * MOST_SLOTS;
 
 /// The words of a table of so many slots.
@@ -149,10 +149,19 @@ pub fn set_up(table: &mut [u64], order: u64) -> Result<(), Refusal> {
     unless_refused(refusal, ())
 }
 
-/// Make of any words the table of an order and a strictly rising list of keys, of which none is measured. It takes memory for as many
-/// zeros twice, which [`build_measured`] is lent. Refusals: 1, 2, 5, 10.
+/// The lengths and the corrections of as many unmeasured keys as a table can have.
+static NO_LENGTHS: [u64; MOST_SLOTS] = [0; MOST_SLOTS];
+static NO_CORRECTIONS: [i32; MOST_SLOTS] = [0; MOST_SLOTS];
+
+/// Make of any words the table of an order and a strictly rising list of keys, of which none is measured. It allocates nothing, but where
+/// there are more than [`MOST_SLOTS`] keys, which is refused: then two lists of as many zeros. Refusals: 1, 2, 5, 10.
 pub fn build(table: &mut [u64], order: u64, keys: &[u64]) -> Result<(), Refusal> {
-    build_measured(table, order, keys, &vec![0; keys.len()], &vec![0; keys.len()])
+    let number = keys.len();
+    match (NO_LENGTHS.get(..number), NO_CORRECTIONS.get(..number)) {
+        (Some(lengths), Some(corrections)) => build_measured(table, order, keys, lengths, corrections),
+        // Too many keys for any table. Shorter lists would be refused with 12 where 10 is due.
+        _ => build_measured(table, order, keys, &vec![0; number], &vec![0; number]),
+    }
 }
 
 /// Make of any words the table of an order and a strictly rising list of keys, each with the length and the correction at its place of the
@@ -243,14 +252,14 @@ pub fn look_up(table: &[u64], key: u64) -> Result<Found, Refusal> {
 /// # Ok::<(), btreap::Refusal>(())
 /// ```
 pub fn look_up_batch(table: &[u64], questions: &mut [Question]) -> Result<u64, Refusal> {
-    // SAFETY: as in `build`; a question is laid out as the header declares it.
+    // SAFETY: as in `build_measured`; a question is laid out as the header declares it.
     let reply = unsafe { sys::btreap_lookup_batch(table.as_ptr(), table.len(), questions.as_mut_ptr(), questions.len()) };
     unless_refused(reply.refusal, reply.size)
 }
 
 /// Write at the start of `out` the held keys from `low` to `high`, both included, rising; how many. Refusals: 1, 4, 7, 11.
 pub fn range(table: &[u64], low: u64, high: u64, out: &mut [u64]) -> Result<usize, Refusal> {
-    // SAFETY: as in `build`.
+    // SAFETY: as in `build_measured`.
     let reply = unsafe { sys::btreap_range(table.as_ptr(), table.len(), low, high, out.as_mut_ptr(), out.len()) };
     unless_refused(reply.refusal, reply.size as usize)
 }
@@ -265,21 +274,21 @@ pub fn step(table: &[u64], place: &mut Place) -> Result<Option<u64>, Refusal> {
 
 /// Write the table's image at the start of `out`; how many bytes it has. Refusals: 1, 7, 11.
 pub fn write(table: &[u64], out: &mut [u8]) -> Result<usize, Refusal> {
-    // SAFETY: as in `build`.
+    // SAFETY: as in `build_measured`.
     let reply = unsafe { sys::btreap_write(table.as_ptr(), table.len(), out.as_mut_ptr(), out.len()) };
     unless_refused(reply.refusal, reply.size as usize)
 }
 
 /// Make of any words the table whose image the bytes are. Refusals: 1, 6, 10.
 pub fn read(table: &mut [u64], image: &[u8]) -> Result<(), Refusal> {
-    // SAFETY: as in `build`.
+    // SAFETY: as in `build_measured`.
     let refusal = unsafe { sys::btreap_read(table.as_mut_ptr(), table.len(), image.as_ptr(), image.len()) };
     unless_refused(refusal, ())
 }
 
 /// Write the text of an image at the start of `out`; how many bytes it has. Refusals: 6, 11.
 pub fn list(image: &[u8], out: &mut [u8]) -> Result<usize, Refusal> {
-    // SAFETY: as in `build`.
+    // SAFETY: as in `build_measured`.
     let reply = unsafe { sys::btreap_list(image.as_ptr(), image.len(), out.as_mut_ptr(), out.len()) };
     unless_refused(reply.refusal, reply.size as usize)
 }

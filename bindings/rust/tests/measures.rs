@@ -51,11 +51,33 @@ fn image_of(table: &[u64]) -> Vec<u8> {
     image
 }
 
+/// What the library replies to an insert with this measure into a blank table.
+fn reply(length: u64, correction: i32) -> Result<u64, Refusal> {
+    btreap::insert_measured(&mut table_of(1, &[]), 5, Measure::new(length, correction))
+}
+
+/// The published ranges are document 02's, and the library takes both ends of each and refuses what is one beyond.
 #[test]
 fn the_ends_of_the_rules() {
+    assert_eq!((Measure::LENGTHS, Measure::CORRECTIONS), (10_000..=40_000, -5_000..=5_000));
+    let (least, greatest) = Measure::LENGTHS.into_inner();
+    let (lowest, highest) = Measure::CORRECTIONS.into_inner();
+    for length in [least, greatest] {
+        for correction in [lowest, highest] {
+            assert_eq!(reply(length, correction), Ok(0));
+        }
+        assert_eq!(reply(length, lowest - 1), Err(Refusal::WrongMeasure));
+        assert_eq!(reply(length, highest + 1), Err(Refusal::WrongMeasure));
+    }
+    for correction in [lowest, highest] {
+        assert_eq!(reply(least - 1, correction), Err(Refusal::WrongMeasure));
+        assert_eq!(reply(greatest + 1, correction), Err(Refusal::WrongMeasure));
+    }
+}
+
+#[test]
+fn measured_or_not() {
     assert_eq!(RIGHT.map(Measure::is_measured), [false, true, true, true, true, true]);
-    assert!(RIGHT[1..].iter().all(|measure| Measure::LENGTHS.contains(&measure.length)));
-    assert!(RIGHT[1..].iter().all(|measure| Measure::CORRECTIONS.contains(&measure.correction)));
     assert_eq!(Measure::default(), Measure::NONE);
 }
 
@@ -152,7 +174,8 @@ fn refusals_of_a_build_in_their_order() {
         [(&[0, 9_999], &[0, 0]), (&[0, 0], &[1, 0]), (&[0], &[0, 0]), (&[0, 0], &[]), (&[0, 0, 0], &[0, 0]), (&[0, 0], &[0, 0, 0])];
     let mut table = table_of(1, &[5]);
     for (lengths, corrections) in lists {
-        let mut build = |from: usize, order: u64, keys: &[u64]| btreap::build_measured(&mut table[from..], order, keys, lengths, corrections);
+        let mut build =
+            |from: usize, order: u64, keys: &[u64]| btreap::build_measured(&mut table[from..], order, keys, lengths, corrections);
         assert_eq!(build(1, 2, &[7, 5]), Err(Refusal::WrongLength));
         assert_eq!(build(0, 2, &[7, 5]), Err(Refusal::WrongOrder));
         assert_eq!(build(0, 3, &[7, 5]), Err(Refusal::NotRising));
@@ -161,4 +184,23 @@ fn refusals_of_a_build_in_their_order() {
     assert_eq!(btreap::build_measured(&mut table, 3, &[5, 7], &[10_000, 0], &[0, 0]), Err(Refusal::TooManyKeys));
     assert_eq!(btreap::build(&mut table, 3, &[5, 7]), Err(Refusal::TooManyKeys));
     assert_eq!(table, table_of(1, &[5]));
+}
+
+/// As many keys as a table can have, none measured, and one more: 1, 2, 5, 10, and never 12.
+#[test]
+fn a_plain_build_of_the_most_keys_and_more() {
+    let most = btreap::MOST_SLOTS as u64;
+    let keys: Vec<u64> = (1..=most).collect();
+    let full = table_of(btreap::MOST_SLOTS, &keys);
+    assert_eq!(measure_of(&full, most), Measure::NONE);
+    let mut table = full.clone();
+    for number in [most + 1, 70_000] {
+        let keys: Vec<u64> = (1..=number).collect();
+        let falling: Vec<u64> = (1..=number).rev().collect();
+        assert_eq!(btreap::build(&mut table[1..], 2, &falling), Err(Refusal::WrongLength));
+        assert_eq!(btreap::build(&mut table, 2, &falling), Err(Refusal::WrongOrder));
+        assert_eq!(btreap::build(&mut table, 3, &falling), Err(Refusal::NotRising));
+        assert_eq!(btreap::build(&mut table, 3, &keys), Err(Refusal::TooManyKeys));
+    }
+    assert_eq!(table, full);
 }

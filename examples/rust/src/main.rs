@@ -33,11 +33,32 @@ fn look_up(table: &[u64], key: u64) -> Result<(), Refusal> {
     Ok(())
 }
 
-/// A measure outside the rules is turned down, and so is another one for a key that is held.
-fn wrong_measures(table: &mut [u64]) {
-    if let Err(refusal) = btreap::insert_measured(table, 100, Measure::new(9_999, 0)) {
-        println!("length 9999: refused, {}", refusal.number());
-    }
+/// Whether a key with this measure is taken, or refused for it.
+fn try_measure(length: u64, correction: i32) -> Result<(), Refusal> {
+    let mut table = vec![0; btreap::table_words(1)];
+    btreap::set_up(&mut table, 3)?;
+    let reply = match btreap::insert_measured(&mut table, 7, Measure::new(length, correction)) {
+        Err(Refusal::WrongMeasure) => "refused",
+        other => other.map(|_| "taken")?,
+    };
+    println!("length {length}, correction {correction}: {reply}");
+    Ok(())
+}
+
+/// At each end of the rules a measure is taken, and one beyond it is refused.
+fn ends_of_the_rules() -> Result<(), Refusal> {
+    let (least, greatest) = Measure::LENGTHS.into_inner();
+    let (lowest, highest) = Measure::CORRECTIONS.into_inner();
+    try_measure(least, lowest)?;
+    try_measure(greatest, highest)?;
+    try_measure(least - 1, 0)?;
+    try_measure(greatest + 1, 0)?;
+    try_measure(least, lowest - 1)?;
+    try_measure(greatest, highest + 1)
+}
+
+/// A key that is held is refused also with another measure.
+fn another_measure(table: &mut [u64]) {
     if let Err(refusal) = btreap::insert_measured(table, 512, Measure::new(26_501, -120)) {
         println!("another measure: refused, {}", refusal.number());
     }
@@ -111,7 +132,8 @@ fn main() -> Result<(), Refusal> {
     look_up(&first, 512)?;
     look_up(&first, 3000)?;
     look_up_together(&first)?;
-    wrong_measures(&mut first);
+    ends_of_the_rules()?;
+    another_measure(&mut first);
 
     btreap::read(&mut third, &sent)?;
     println!("read back: {}", yes_or_no(third == first));
