@@ -147,10 +147,11 @@ fn lookups_of_mixed_sets() {
     }
 }
 
-/// A table of the layout before measures is none: 3 + 6·M words are 3 + 8·M only for
-/// other numbers of slots, and then not sound.
+/// A table of the layout before measures is mostly none: 3 + 6·M words are 3 + 8·M only
+/// for other numbers of slots. An empty one may be a blank table, though, and one of a
+/// key sound.
 #[test]
-fn the_old_layout_is_refused() {
+fn the_old_layout() {
     let old = |slots: usize| [vec![3], vec![0; 2 + 6 * slots]].concat();
     let of_one_key = vec![3, 1, 5, 5, 0, 0, 0, 0, 1];
     for form in FORMS {
@@ -163,6 +164,10 @@ fn the_old_layout_is_refused() {
         four[..9].copy_from_slice(&of_one_key);
         assert_eq!(slots_of_length(four.len()), Some(3));
         assert_eq!((form.look_up)(&four, 5).refusal, 7);
+        assert_eq!((form.look_up)(&old(4), 5).refusal, 0);
+        // The home of 1 is slot 0 of four and of three.
+        four[..9].copy_from_slice(&[3, 1, 1, 1, 0, 0, 0, 0, 1]);
+        assert_eq!((form.look_up)(&four, 1).refusal, 0);
     }
     assert_eq!([11, 32_771].map(slots_of_length), [Some(1), Some(4096)]);
     assert_eq!([3, 9, 10, 12, 32_779].map(slots_of_length), [None; 5]);

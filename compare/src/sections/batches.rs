@@ -6,11 +6,8 @@ use crate::batches::{neighbours_only, random_batch, some_of, with_neighbours};
 use crate::call::Call;
 use crate::case::{Case, Tally};
 use crate::keys::{keys_outranking, keys_with_home, parts, permutations, Chain};
-use crate::measures::random_set;
 use crate::outcome::Outcome;
-use crate::tables::{
-    blocks_of, is_measure_word, make_unsound, measured_table, path_of, sound_table, table_length,
-};
+use crate::tables::{blocks_of, is_measure_word, make_unsound, path_of, table_length};
 
 pub const SECTION: Section = Section {
     name: "batches",
@@ -75,7 +72,7 @@ fn blocks_met(outcome: &Outcome) -> u64 {
 fn example_e(case: &mut Case) {
     let keys = keys_outranking(&[6, 0, 1, 2, 3, 4, 5]);
     let (one, seven, eight) = (keys[0], keys[6], keys[6] + 1);
-    case.lend_sound(9, 3, &keys);
+    exercise::lend_keys(case, 9, 3, &keys);
     meets(case, &[seven], 3);
     meets(case, &[eight], 3);
     meets(case, &[one], 2);
@@ -93,7 +90,7 @@ fn random_table(case: &mut Case, slots: usize, order: u64) {
 /// None, all, the next ones, the keys of whole paths, a few, one; all keys meet
 /// all blocks.
 fn each_kind(case: &mut Case, slots: usize, order: u64, keys: &[u64]) {
-    case.lend_sound(slots, order, keys);
+    exercise::lend_keys(case, slots, order, keys);
     meets(case, &[], 0);
     meets(case, keys, blocks_of(order, keys));
     accepted(case, with_neighbours(keys));
@@ -118,8 +115,7 @@ fn each_kind(case: &mut Case, slots: usize, order: u64, keys: &[u64]) {
 fn one_by_one(case: &mut Case, slots: usize) {
     let (order, number) = (case.random.order(), case.random.fill(slots));
     let held = case.random.keys(number);
-    let set = random_set(&held, &mut case.random);
-    case.lend_measured(slots, order, &set);
+    exercise::lend_keys(case, slots, order, &held);
     let mut keys = random_batch(&held, &mut case.random);
     keys.truncate(100);
     let look_up = |&key: &u64| case.refused(Call::LookUp { key }, 0).reply.numbers;
@@ -143,7 +139,7 @@ fn every_batch(case: &mut Case, places: &[usize]) {
         asked = with_neighbours(&keys);
     }
     for order in [3, 4] {
-        case.lend_sound(keys.len() + 1, order, &keys);
+        exercise::lend_keys(case, keys.len() + 1, order, &keys);
         for batch in parts(&asked) {
             accepted(case, batch);
         }
@@ -164,7 +160,7 @@ fn chains(tally: &mut Tally) {
 /// Its end and some of its keys; all paths of so long a chain would take long.
 fn longest_chain(case: &mut Case, chain: Chain, order: u64) {
     let keys = chain.keys(4095);
-    case.lend_sound(4096, order, &keys);
+    exercise::lend_keys(case, 4096, order, &keys);
     let last = keys[4094];
     accepted(case, vec![last, last + 1]);
     accepted(case, keys[..40].to_vec());
@@ -181,7 +177,7 @@ fn one_home(case: &mut Case, slots: usize, home: usize, number: usize) {
 /// As many keys as the order are one block at most, whatever is asked.
 fn one_block(case: &mut Case, number: usize) {
     let keys = case.random.keys(number);
-    case.lend_sound(number, 255, &keys);
+    exercise::lend_keys(case, number, 255, &keys);
     meets(case, &keys, 1);
     meets(case, &with_neighbours(&keys), 1);
     meets(case, &[u64::MAX], 1);
@@ -192,7 +188,7 @@ fn one_block(case: &mut Case, number: usize) {
 fn ends(case: &mut Case) {
     let ends = [1, 2, u64::MAX - 1, u64::MAX];
     for held in parts(&ends) {
-        case.lend_sound(4, 3, &held);
+        exercise::lend_keys(case, 4, 3, &held);
         for keys in parts(&ends) {
             accepted(case, keys);
         }
@@ -204,11 +200,11 @@ fn many_lines(case: &mut Case) {
     let lines: Vec<u64> = (1..=6_000).map(|i| 3 * i).collect();
     for order in [3, 255] {
         let held: Vec<u64> = (1..=4_096).map(|i| 4 * i).collect();
-        case.lend_sound(4096, order, &held);
+        exercise::lend_keys(case, 4096, order, &held);
         accepted(case, lines.clone());
-        case.lend_sound(1, order, &[9_000]);
+        exercise::lend_keys(case, 1, order, &[9_000]);
         meets(case, &lines, 1);
-        case.lend_sound(1, order, &[]);
+        exercise::lend_keys(case, 1, order, &[]);
         meets(case, &lines, 0);
     }
 }
@@ -238,7 +234,8 @@ const GOOD: [&[u64]; 4] = [&[], &[7], &[1, 2, 3], &[u64::MAX]];
 fn turned_down(case: &mut Case, slots: usize) {
     let number = case.random.fill(slots);
     let (order, keys) = (case.random.order(), case.random.keys(number));
-    let sound = sound_table(slots, order, &keys);
+    exercise::lend_keys(case, slots, order, &keys);
+    let sound = case.table.clone();
     let mut unsound = sound.clone();
     make_unsound(&mut unsound);
     let all = [BAD.to_vec(), GOOD.to_vec()].concat();
@@ -259,8 +256,8 @@ fn turned_down(case: &mut Case, slots: usize) {
 fn damaged(case: &mut Case, slots: usize) {
     let number = case.random.fill(slots);
     let (order, keys) = (case.random.order(), case.random.keys(number));
-    let set = random_set(&keys, &mut case.random);
-    let table = measured_table(slots, order, &set);
+    exercise::lend_keys(case, slots, order, &keys);
+    let table = case.table.clone();
     // With another order a table of few keys may be sound as well; so may it with
     // another measure.
     let words: Vec<usize> = (1..table.len()).filter(|&i| !is_measure_word(i)).collect();

@@ -5,6 +5,7 @@ use super::damaged_images::read_and_list;
 use super::{exercise, Section};
 use crate::call::Call;
 use crate::case::{Case, Tally};
+use crate::keys::keys_with_home;
 use crate::measures;
 use crate::tables::{image_of, length_word, measured_image, measured_table, set_in, sound_table};
 use reference::measure::Measure;
@@ -119,18 +120,24 @@ fn ask(case: &mut Case, table: &[u64]) {
     case.call(Call::Delete { key: 4 });
 }
 
-/// Tables of six words for each slot: of no length that a table has, or not sound.
+/// Tables of six words for each slot: of no length that a table has, or not sound. But
+/// an empty one may be a blank table, and one whose only key has home 0 in four slots
+/// and in three is that key's table.
 fn old_layout(case: &mut Case) {
-    for (slots, keys) in [
-        (1, vec![5]),
-        (2, vec![4, 9]),
-        (4, vec![5]),
-        (8, vec![4, 5, 9]),
+    for (slots, keys, refusal) in [
+        (1, vec![5], 1),
+        (2, vec![4, 9], 1),
+        (3, vec![], 1),
+        (4, vec![], 0),
+        (4, vec![5], 7),
+        (4, keys_with_home(0, 12, 0, 1), 0),
+        (8, vec![4, 5, 9], 7),
+        (4096, vec![], 0),
+        (4096, vec![4, 5, 9], 7),
     ] {
         let new = sound_table(slots, ORDER, &keys);
         let mut old = new[..3].to_vec();
         new[3..].chunks(8).for_each(|slot| old.extend(&slot[..6]));
-        let refusal = if slots % 4 == 0 { 7 } else { 1 };
         judged(case, &old, refusal);
     }
     // The image of unmeasured keys is what it was.
@@ -198,7 +205,8 @@ fn read_or_not(case: &mut Case, image: Vec<u8>, refusal: u64) {
     case.refused(Call::List { image, room }, refusal);
 }
 
-fn measured_records(image: &[u8]) -> Vec<usize> {
+/// Where an image has the records of measured keys.
+pub fn measured_records(image: &[u8]) -> Vec<usize> {
     records(image, b"LM")
 }
 

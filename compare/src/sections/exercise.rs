@@ -5,11 +5,18 @@ use crate::case::Case;
 use crate::list::List;
 use crate::measures::{self, random_set};
 use crate::tables::{image_length, keys_in, listing_length, measured_image, table_length};
+use reference::Set;
 
 /// Lends words that are no table's.
 pub fn lend_rubbish(case: &mut Case, slots: usize) {
     let words = (0..table_length(slots)).map(|_| case.random.number());
     case.table = words.collect();
+}
+
+/// Lends the sound table of an order and the keys, measured or not.
+pub fn lend_keys(case: &mut Case, slots: usize, order: u64, keys: &[u64]) {
+    let set = random_set(keys, &mut case.random);
+    case.lend_measured(slots, order, &set);
 }
 
 /// Builds over rubbish, the keys measured or not; with more keys than slots that is
@@ -41,10 +48,18 @@ pub fn read(case: &mut Case, slots: usize, order: u64, keys: &[u64]) {
     case.table = before;
 }
 
-/// Lists the image into outputs of three lengths.
+/// Lists the image of an order and the keys, measured or not, into outputs of three
+/// lengths.
 pub fn list(case: &mut Case, order: u64, keys: &[u64]) {
-    let image = measured_image(order, &random_set(keys, &mut case.random));
-    let length = listing_length(order, keys);
+    let set = random_set(keys, &mut case.random);
+    list_set(case, order, &set);
+}
+
+/// The same of a set.
+pub fn list_set(case: &mut Case, order: u64, set: &Set) {
+    let image = measured_image(order, set);
+    let keys: Vec<u64> = set.keys().copied().collect();
+    let length = listing_length(order, &keys);
     for (room, refusal) in [(length, 0), (length - 1, 11), (length + 5, 0)] {
         let image = image.clone();
         case.refused(Call::List { image, room }, refusal);

@@ -4,7 +4,7 @@ use super::{damaged_images, damaged_tables, Section};
 use crate::case::{Case, Tally};
 use crate::keys::parts;
 use crate::measures::random_set;
-use crate::tables::{image_of, measured_image, measured_table, slots_of, sound_table};
+use crate::tables::{measured_image, measured_table, slots_of};
 use reference::priority::{priority, Priority, TIES};
 use reference::{image, table, Contents};
 
@@ -104,20 +104,21 @@ fn with_priority(case: &mut Case, slots: usize, keys: &[u64], priority: Priority
 
 /// The table and the image for a number that is no order.
 fn no_order(case: &mut Case, keys: &[u64]) {
+    let set = random_set(keys, &mut case.random);
     for order in [2, 256, 257, 1000] {
-        let table = sound_table(7, order, keys);
+        let table = measured_table(7, order, &set);
         damaged_tables::each_call(case, keys, &table);
     }
     // The others have no byte.
     case.lend_sound(7, 3, &[]);
-    damaged_images::read_and_list(case, image_of(2, keys));
+    damaged_images::read_and_list(case, measured_image(2, &set));
 }
 
 /// The image of a set that has the key zero.
 fn key_zero(case: &mut Case, keys: &[u64]) {
-    let with_zero = [&[0], keys].concat();
+    let with_zero = random_set(&[&[0], keys].concat(), &mut case.random);
     case.lend_sound(7, 3, &[]);
     for order in [3, 4, 255] {
-        damaged_images::read_and_list(case, image_of(order, &with_zero));
+        damaged_images::read_and_list(case, measured_image(order, &with_zero));
     }
 }

@@ -5,7 +5,8 @@ use super::{exercise, Section};
 use crate::call::Call;
 use crate::case::{Case, Tally};
 use crate::keys::{keys_outranking, Chain};
-use crate::tables::{image_of, listing_length};
+use crate::measures::random_set;
+use crate::tables::{listing_length, measured_image};
 
 pub const SECTION: Section = Section {
     name: "listings",
@@ -60,7 +61,7 @@ fn one_block(case: &mut Case, order: u64, left: usize, right: usize) {
 }
 
 fn list_once(case: &mut Case, order: u64, keys: &[u64]) {
-    let image = image_of(order, keys);
+    let image = measured_image(order, &random_set(keys, &mut case.random));
     let room = listing_length(order, keys);
     case.refused(Call::List { image, room }, 0);
 }

@@ -5,6 +5,7 @@ use super::{exercise, Section};
 use crate::call::Call;
 use crate::case::{Case, Tally};
 use crate::list::List;
+use crate::measures::random_set;
 use crate::tables::{image_of, measured_image, set_in};
 use reference::measure::Measure;
 use reference::Set;
@@ -32,7 +33,8 @@ fn long_list(case: &mut Case, number: u64) {
     for slots in [1, 64, 4096] {
         exercise::lend_rubbish(case, slots);
         let order = case.random.order();
-        case.refused(Call::build(order, &rising), 10);
+        let list = List::of(&random_set(&rising, &mut case.random));
+        case.refused(Call::Build { order, list }, 10);
         for (place, key) in [(0, 0), (last, 0), (last, 1), (last / 2, 1)] {
             let mut keys = rising.clone();
             keys[place] = key;
@@ -74,7 +76,7 @@ fn long_batch(case: &mut Case, number: u64) {
     let rising: Vec<u64> = (1..=number).collect();
     let last = rising.len() - 1;
     for (slots, held) in [(1, vec![]), (64, vec![1, 77, number])] {
-        case.lend_sound(slots, 3, &held);
+        exercise::lend_keys(case, slots, 3, &held);
         let mut keys = rising.clone();
         case.refused(Call::LookUpBatch { keys }, 0);
         for (place, key) in [(0, 0), (last, 0), (last, number - 1), (last / 2, 1)] {

@@ -58,7 +58,7 @@ fn taken(case: &mut Case, measure: Measure) {
     found(case, 5, measure);
     found(case, 6, Measure::NONE);
     exercise::write(case);
-    exercise::list(case, ORDER, &[5]);
+    exercise::list_set(case, ORDER, &set);
 }
 
 /// A lookup gives this measure.

@@ -2,6 +2,7 @@
 //! first in the order in which the call checks is given, and 0 where there is no
 //! fault.
 
+use super::damaged_measures::measured_records;
 use super::Section;
 use crate::call::{Call, Place};
 use crate::case::{Case, Tally};
@@ -14,6 +15,7 @@ use crate::tables::{
     image_length, length_word, listing_length, make_unsound, measured_image, measured_table,
     slot_start, sound_table,
 };
+use reference::measure::Measure;
 use reference::Set;
 
 pub const SECTION: Section = Section {
@@ -278,13 +280,42 @@ fn image(faults: &Faults) -> Vec<u8> {
     let mut image = measured_image(ORDER, &faults.set(keys));
     if faults.has(6) {
         let part = faults.way * 7 % image.len();
-        match faults.way % 4 {
+        match faults.way % 8 {
             0 => image.truncate(part),
-            1 => image.push(b'L'),
-            2 => image[2] = faults.pick(&[2, 0, 1]),
-            _ => image[0] = 0,
+            2 => image.push(b'L'),
+            4 => image[2] = faults.pick(&[2, 0, 1]),
+            6 => image[0] = 0,
+            _ => image = image_with_wrong_measure(faults, keys),
         }
     }
+    image
+}
+
+/// Lengths and stored corrections that a record of a measured key never has.
+const WRONG_NUMBERS: [(u32, u16); 11] = [
+    (0, 0),
+    (0, 5_000),
+    (1, 5_000),
+    (9_999, 5_000),
+    (40_001, 5_000),
+    (65_536 + 26_500, 0),
+    (u32::MAX, 10_000),
+    (10_000, 10_001),
+    (26_500, 10_001),
+    (26_500, 65_535),
+    (40_000, 65_535),
+];
+
+/// An image but for the measure of one key; for no keys that of a few.
+fn image_with_wrong_measure(faults: &Faults, keys: &[u64]) -> Vec<u8> {
+    let keys = if keys.is_empty() { &FEW[..] } else { keys };
+    let mut set = faults.set(keys);
+    set.insert(faults.pick(keys), Measure::new(26_500, 0));
+    let mut image = measured_image(ORDER, &set);
+    let (length, correction) = faults.pick(&WRONG_NUMBERS);
+    let at = faults.pick(&measured_records(&image)) + 30;
+    image[at..at + 4].copy_from_slice(&length.to_le_bytes());
+    image[at + 4..at + 6].copy_from_slice(&correction.to_le_bytes());
     image
 }
 

@@ -5,7 +5,7 @@
 use super::{exercise, Section};
 use crate::call::Call;
 use crate::case::{Case, Tally};
-use crate::tables::{keys_in, slot_start, sound_table};
+use crate::tables::{keys_in, slot_start};
 
 pub const SECTION: Section = Section { name: "sorts", run };
 
@@ -67,7 +67,7 @@ fn blocks(case: &mut Case, number: usize, order: u64) {
 fn twice(case: &mut Case, number: usize) {
     let keys = case.random.keys(number);
     let order = case.random.order();
-    case.table = sound_table(number, order, &keys);
+    exercise::lend_keys(case, number, order, &keys);
     let (one, other) = (case.random.below(number / 2), number - 1);
     case.table[slot_start(one)] = case.table[slot_start(other)];
     case.refused(Call::LookUp { key: keys[0] }, 7);
