@@ -4,7 +4,8 @@
  * table is a function of its order, its number of slots and the set alone, however the set was reached. A table's image is a string of
  * bytes; two sound tables have equal images exactly when their orders and sets are equal, measures included.
  *
- * Programs compiled with an earlier header must be compiled again: earlier ones declare other types under the same names.
+ * Programs compiled with a header before 0.2.0 must be compiled again: it declares other types under the same names. Tables made then have
+ * another layout: do not lend them, since not every one of them is refused. Images made then are read as they are, no key being measured.
  *
  * The table.    BTREAP_TABLE_WORDS(M), that is 3 + 8*M words, for M slots, 1 to 4,096; it holds up to M keys. Make one of any words
  *               with btreap_set_up, btreap_build, btreap_read or btreap_load; then do not write to it but by these calls.
@@ -17,7 +18,7 @@
  * Any words, numbers and bytes may be handed in: each call replies, and a call that refuses changes none of the lent memory. `refusal` is
  * 0 when the call was accepted; all other numbers of a reply are 0 when it was refused, except the three of a step's place (next, high,
  * done), which then come back as they were passed. Of several refusals the one is given that the call names first; each call names its
- * refusals by rising number, but 12 before 7 and 10:
+ * refusals by rising number, but 12 before 7, 8 and 10:
  *
  *    1  the number of words is not 3 + 8*M for an M from 1 to 4,096
  *    2  the order is outside 3 to 255

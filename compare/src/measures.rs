@@ -23,8 +23,9 @@ pub const CORNERS: [Measure; 12] = [
 ];
 
 /// Measures outside the rules. Some would be within them if a number were cut to
-/// fewer bits, taken for a signed one or for an unsigned one.
-pub const WRONG: [Measure; 27] = [
+/// fewer bits, taken for a signed one or for an unsigned one; the last two if both
+/// were packed in one before they are judged.
+pub const WRONG: [Measure; 29] = [
     Measure::new(9_999, 0),
     Measure::new(40_001, 0),
     Measure::new(1, 0),
@@ -52,6 +53,8 @@ pub const WRONG: [Measure; 27] = [
     Measure::new(0, -5_000),
     Measure::new(0, i32::MIN),
     Measure::new(0, i32::MAX),
+    Measure::new(9_999, 65_536 - 5_000),
+    Measure::new(40_001, -65_536 - 5_000),
 ];
 
 /// The measure of a measured key.

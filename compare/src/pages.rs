@@ -77,8 +77,8 @@ impl<T: Cell> Pages<T> {
         };
         let open = map(size);
         // SAFETY: both places are within the pages, which are ours; cells are
-        // aligned there, since a page and a cell are whole numbers of words, or
-        // of what the cell is aligned to.
+        // aligned there, since a page and a cell are whole numbers of what the cell
+        // is aligned to.
         let start = unsafe {
             let paint = open.add(painted.start);
             ptr::copy_nonoverlapping(PAINT.as_ptr(), paint, painted.len());

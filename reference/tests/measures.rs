@@ -313,8 +313,8 @@ fn damaged_records() {
     refused(&damaged);
 }
 
-/// "The listing's lines show no measures", and the longest image that may be listed
-/// has 1,000 measured keys, each in a block of its own.
+/// "The listing's lines show no measures", and the byte limit is what 1,000 measured
+/// keys would take if each had a block of its own.
 #[test]
 fn listings_show_no_measures() {
     let measured = set(&[(5, 26_500, 17), (9, 0, 0)]);

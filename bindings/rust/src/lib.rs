@@ -33,7 +33,7 @@ pub const fn table_words(slots: usize) -> usize {
 }
 
 /// Why a call was turned down. Of several refusals the one is given that the call names first; each call names its refusals by rising
-/// number, but 12 before 7 and 10.
+/// number, but 12 before 7, 8 and 10.
 #[derive(Clone, Copy, Debug, PartialEq, Eq)]
 pub enum Refusal {
     WrongLength,
@@ -209,8 +209,8 @@ pub fn insert(table: &mut [u64], key: u64) -> Result<u64, Refusal> {
     insert_measured(table, key, Measure::NONE)
 }
 
-/// Insert a key with its measure; the rank that it then has. A held key is refused also with another measure.
-/// Refusals: 1, 3, 12, 7, 8, 10.
+/// Insert a key with its measure; the rank that it then has. A held key is refused also with another measure;
+/// to change a key's measure, delete the key and insert it again. Refusals: 1, 3, 12, 7, 8, 10.
 pub fn insert_measured(table: &mut [u64], key: u64, measure: Measure) -> Result<u64, Refusal> {
     let Measure { length, correction } = measure;
     // SAFETY: as in `set_up`.

@@ -24,7 +24,7 @@ pub const SECTION: Section = Section {
 };
 
 /// Each set of faults is arranged in so many ways.
-const WAYS: usize = 27;
+const WAYS: usize = WRONG.len();
 
 const SLOTS: usize = 3;
 const ORDER: u64 = 3;

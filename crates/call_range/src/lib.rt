@@ -11,7 +11,7 @@ use call_replies::Refusal;
 use priority::CONSTANT_COUNT;
 use table_examine::Verdict;
 
-// The range of a table of `many` slots, with `keys` to work in.
+// The range of a table of `many` slots, with `keys` and `tags` to work in.
 fn range_in(
     table: &[u64],
     many: usize,
@@ -38,7 +38,7 @@ fn range_in(
     Ranged::Wrote(wanted)
 }
 
-// The range of a table of `many` slots, with room for the table's keys, and the constants of the priorities made for it.
+// The range of a table of `many` slots, with room for the table's keys and tags, and the constants of the priorities made for it.
 fn range_with_room(table: &[u64], many: usize, low: u64, high: u64, output: &mut [u64]) -> Ranged
     requires { ⌜ (0 < many) × (many ≤ mostSlots) × (length (now table) ≡ tableWords many) × (low ≤ high) ⌝ }
     ensures { λ r. ⌜ rangedOf r ≡ rangeReply (now (table .entry)) low high (now (output .entry)) ⌝ }

@@ -1,4 +1,5 @@
-// Examining a table: its keys and the tags of their measures are read and sorted, and its words compared with those of its order and keys.
+// Examining a table: its keys and the tags of their measures are read and sorted, and its words compared with those of its
+// order, keys and measures.
 ghost use mathlib.Core.Path.{_≡_};
 ghost use Prim.Native.Nat.{_<_, _≤_};
 ghost use lib.ListN.{length};
@@ -43,7 +44,7 @@ fn read_keys(
     n
 }
 
-// The verdict on a table that shows `n` keys, by whether its words are those of its order and keys.
+// The verdict on a table that shows `n` keys, by whether its words are those of its order, keys and measures.
 fn conclude(same: bool, n: usize) -> Verdict
     ensures { λ r. ⌜ r ≡ cond same (Verdict.Sound n) Verdict.Unsound ⌝ }
 {

@@ -3,7 +3,7 @@ use mathlib.Core.List.{List}
 use mathlib.Core.Path.{_≡_, refl, sym, ap, _∙_}
 use Prim.Native.Nat.{ℕ, _<_}
 use native.Mathlib.Omega.{arith}
-use Rattle.lists.specs.Lists.{Rising}
+use Rattle.lists.specs.Lists.{lies, Rising}
 use Rattle.measure.specs.Tag.{isTag, isStored, lengthIn, storedIn}
 use Rattle.measure.proofs.Tags.{no-tag}
 use Rattle.table.specs.Contents.{keysIn, IsKey}
@@ -78,7 +78,7 @@ add-key : tie.Need-add-key
 add-key c = search needs
 
 insert-known-requires : tie.Need-insert-known-requires
-unfolding isTag isStored lengthIn storedIn
+unfolding lies isTag isStored lengthIn storedIn
 insert-known-requires c κs =
     let p = c .before .before .before .before in
     let start = begun p in
