@@ -2,7 +2,7 @@
 use mathlib.Core.Bool.{Bool, true, false, cond, _&&_}
 use mathlib.Core.List.{List, _++_, append-nil, Permᴰ·symm}
 use mathlib.Core.Logic.{_≢_}
-use mathlib.Core.Path.{_≡_, refl, sym, ap, ap₂, _∙_, subst}
+use mathlib.Core.Path.{_≡_, refl, sym, ap, _∙_, subst}
 use Prim.Native.Nat.{ℕ, _<_, _≤_}
 use native.Mathlib.Omega.{arith}
 use lib.Dec.{leb, ltb}
@@ -14,9 +14,7 @@ use Rattle.lists.proofs.Tests.{by-test, true-or-false, and-left, and-right, and
 use Rattle.lists.proofs.Keep.{every-when}
 use Rattle.lists.proofs.Sorting.{all-permuted, sortBy-permutes}
 use Rattle.lists.proofs.Sorted.{sorted-length}
-use Rattle.lists.proofs.Start.{starts-with}
 use Rattle.lists.proofs.Overwrite.{overwrite-start}
-use Rattle.lists.proofs.Parts.{overwrite-again}
 use Rattle.measure.specs.Tag.{tagOf}
 use Rattle.treap.specs.Image.{orderBytes}
 use Rattle.table.specs.Layout.{mostSlots, leastOrder, greatestOrder}
@@ -26,6 +24,7 @@ use Rattle.table.proofs.Entries.{sorted-keys}
 use Rattle.table.proofs.Tagged.{tagged-back}
 use Rattle.table_decode.specs.Decode.{TagsSorted}
 use Rattle.table_decode.proofs.RisingKeys.{rising-says}
+use Rattle.table_decode.proofs.SortedInPlace as Sorted
 use Rattle.table_prepare.specs.Prepared.{Keys}
 use Rattle.table_prepare.proofs.Writable.{writable}
 use Rattle.image.specs.Layout.{orderAt, mostBytes, IsByte}
@@ -176,37 +175,19 @@ shown-size bytes n h =
 pub tags-size : (bytes : List ℕ) → length (tagsIn (readImage bytes)) ≡ length (keysIn (readImage bytes))
 tags-size bytes = length-map (readImage bytes .entries) (λ e. tagOf (e .measure)) ∙ sym (length-map (readImage bytes .entries) (λ e. e .key))
 
-module _ (bytes : List ℕ) (n : ℕ) (number : n ≡ length (entriesOf bytes)) where
-  keys-many : length (entryKeys (entriesOf bytes)) ≡ n
-  keys-many = length-map (entriesOf bytes) (λ e. e .key) ∙ sym number
+-- what was collected, once it is sorted
+module _ (bytes : List ℕ) {lent keys space tags : List ℕ} {n : ℕ} (had : Sorted.Collected (entriesOf bytes) lent keys space tags n) where
+  pub keys-sorted : (after : List ℕ) → after ≡ overwrite keys 0 (sortBy ltb (take n keys)) → after ≡ overwrite lent 0 (keysIn (readImage bytes))
+  keys-sorted after e = Sorted.keys-sorted had after e ∙ ap (λ (es : List Entry). overwrite lent 0 (entryKeys es)) (sym (entries-are bytes))
 
-  tags-many : length (entryTags (entriesOf bytes)) ≡ n
-  tags-many = length-map (entriesOf bytes) (λ e. tagOf (e .measure)) ∙ sym number
-
-  -- the keys collected, then sorted in place
-  pub sorted-over : (lent held sorted : List ℕ) → held ≡ overwrite lent 0 (entryKeys (entriesOf bytes)) → n ≤ length lent
-      → sorted ≡ overwrite held 0 (sortBy ltb (take n held)) → sorted ≡ overwrite lent 0 (keysIn (readImage bytes))
-  sorted-over lent held sorted e room s =
-      let shown : sortBy ltb (take n held) ≡ keysIn (readImage bytes) =
-      ap (sortBy ltb) (starts-with held lent (entryKeys (entriesOf bytes)) n e keys-many) ∙ sym (keys-are bytes)
-      in
-      s
-      ∙ ap₂ (λ (xs ks : List ℕ). overwrite xs 0 ks) e shown
-      ∙ overwrite-again 0 n (entryKeys (entriesOf bytes)) lent (omega (arith, keys-many)) room (keysIn (readImage bytes)) (keys-many ∙ sym (shown-size bytes n number))
-
-  -- and the tags with them, where the keys rise
-  pub tags-over : (keys-lent keys-held tags-lent tags-held after : List ℕ) → keys-held ≡ overwrite keys-lent 0 (entryKeys (entriesOf bytes))
-      → tags-held ≡ overwrite tags-lent 0 (entryTags (entriesOf bytes)) → n ≤ length tags-lent → risingKeys (keysIn (readImage bytes)) ≡ true
-      → TagsSorted n keys-held tags-held after → after ≡ overwrite tags-lent 0 (tagsIn (readImage bytes))
+  -- the tags where the keys rise
+  pub tags-sorted : (after : List ℕ) → TagsSorted n keys tags after → risingKeys (keysIn (readImage bytes)) ≡ true → after ≡ overwrite space 0 (tagsIn (readImage bytes))
   unfolding risingKeys
-  tags-over keys-lent keys-held tags-lent tags-held after keys-are-held tags-are-held room rise sorted =
+  tags-sorted after sorted rise =
       let ks = keysIn (readImage bytes) in
-      sorted (entriesOf bytes) (sym (starts-with keys-held keys-lent (entryKeys (entriesOf bytes)) n keys-are-held keys-many))
-      (sym (starts-with tags-held tags-lent (entryTags (entriesOf bytes)) n tags-are-held tags-many))
+      Sorted.tags-sorted had after sorted
       (ap (λ (es : List Entry). risesB (entryKeys es)) (sym (entries-are bytes)) ∙ and-left (risesB ks) (every nonzero ks) rise)
-      ∙ ap₂ (λ (xs : List ℕ) (es : List Entry). overwrite xs 0 (entryTags es)) tags-are-held (sym (entries-are bytes))
-      ∙ overwrite-again 0 n (entryTags (entriesOf bytes)) tags-lent (omega (arith, tags-many)) room (tagsIn (readImage bytes))
-      (tags-many ∙ sym (tags-size bytes ∙ shown-size bytes n number))
+      ∙ ap (λ (es : List Entry). overwrite space 0 (entryTags es)) (sym (entries-are bytes))
 
 -- bytes written over a list of their length
 pub written-over : (old new : List ℕ) → length new ≡ length old → writtenTo old new ≡ new

@@ -2,5 +2,6 @@
 mod Neighbours
 mod Gathered
 pub mod RisingKeys
-pub mod Collecting
-pub mod SortedTags
+mod Collecting
+mod SortedTags
+pub mod SortedInPlace

@@ -1,7 +1,7 @@
 -- What the tests of examining say of the verdict. Assumes nothing.
 use mathlib.Core.Bool.{Bool, true, false, cond}
 use mathlib.Core.List.{List}
-use mathlib.Core.Path.{_≡_, refl, sym, ap, ap₂, _∙_}
+use mathlib.Core.Path.{_≡_, refl, sym, ap, ap₂, _∙_, subst}
 use Prim.Native.Nat.{ℕ, _≤_}
 use native.Mathlib.Omega.{arith}
 use lib.ListN.{length, getD, take}
@@ -9,18 +9,23 @@ use Rattle.lists.specs.Lists.{All, lies, risesB, same, overwrite}
 use Rattle.lists.proofs.Keep.{every-when}
 use Rattle.lists.proofs.Rising.{rises-says}
 use Rattle.lists.proofs.Start.{starts-with}
+use Rattle.lists.proofs.Tests.{same-test}
+use Rattle.lists.proofs.Membership.{same-when}
 use Rattle.table.specs.Layout.{mostSlots, leastOrder, greatestOrder, orderWord}
-use Rattle.table.specs.Contents.{Entry, keysIn, tableOrder, rightMeasure}
+use Rattle.table.specs.Contents.{Entry, Contents, keysIn, tableOrder, rightMeasure}
 use Rattle.table.specs.Tags.{tagsIn, entriesTagged, tagged}
 use Rattle.table.specs.Table.{fresh, contentsOf}
 use Rattle.table.specs.Sound.{soundWith}
-use Rattle.table.proofs.Soundness.{shown-fit, shown-nonzero}
+use Rattle.table.proofs.Soundness.{shown-fit, shown-nonzero, sound-exactly}
 use Rattle.table.proofs.Tagged.{tagged-back}
+use Rattle.table_decode.specs.Decode.{contentsRead}
 use Rattle.table_prepare.specs.Prepared.{Keys}
 use Rattle.table_prepare.proofs.Writable.{writable}
 use Rattle.table_examine.specs.declared.Verdict.{Verdict}
 use Rattle.table_examine.specs.declared.Verdict.the-variants.{Sound, Unsound}
 use Rattle.table_examine.specs.Examine.{verdictOf}
+use Rattle.table_examine.proofs.Measured.{read-right, sound-read, exact-read}
+use Rattle.table_examine.proofs.KeysRead.{keys-shown}
 
 abbrev says : Verdict → Bool
 says (Sound n) = true
@@ -46,10 +51,21 @@ module _ (many : ℕ) (words : List ℕ) where
   unfolding soundWith contentsOf tableOrder
   keys-do-not-rise right e = rw (right, e)
 
-  pub decided : lies leastOrder greatestOrder (getD words orderWord 0) ≡ true → risesB (keysIn (contentsOf many words)) ≡ true
-      → All (λ e. rightMeasure e ≡ true) (contentsOf many words .entries) → soundWith many words ≡ same words (fresh many (contentsOf many words))
+  passes : lies leastOrder greatestOrder (getD words orderWord 0) ≡ true → risesB (keysIn (contentsOf many words)) ≡ true
+      → All (λ e. rightMeasure e ≡ true) (contentsOf many words .entries) → same words (fresh many (contentsOf many words)) ≡ true → soundWith many words ≡ true
   unfolding soundWith contentsOf tableOrder
-  decided right e measures = rw (right, e, every-when rightMeasure (contentsOf many words .entries) measures)
+  passes right e measures t = rw (right, e, every-when rightMeasure (contentsOf many words .entries) measures, t)
+
+  -- the table is sound exactly where its words are those of what is read of it
+  pub decided : lies leastOrder greatestOrder (getD words orderWord 0) ≡ true → risesB (keysIn (contentsOf many words)) ≡ true
+      → soundWith many words ≡ same words (fresh many (contentsRead many words))
+  decided right e =
+      same-test (soundWith many words) (same words (fresh many (contentsRead many words)))
+      (λ t. same-when words (fresh many (contentsRead many words)) (sound-exactly many words t ∙ ap (fresh many) (sym (sound-read many words t))))
+      (λ t.
+      let shown = exact-read many words t in
+      passes right e (subst (λ (c : Contents). All (λ f. rightMeasure f ≡ true) (c .entries)) shown (read-right many words))
+      (ap (λ (c : Contents). same words (fresh many c)) (sym shown) ∙ t))
 
   pub unsound : soundWith many words ≡ false → Unsound ≡ verdictOf many words
   unfolding verdictOf
@@ -88,10 +104,9 @@ module _ (many : ℕ) (words : List ℕ) where
       writable (getD words orderWord 0) (keysIn (contentsOf many words)) right (rises-says (keysIn (contentsOf many words)) e) (shown-nonzero many words)
       (omega (arith, shown-fit many words))
 
-  pub compared : (keys tags : List ℕ) → keys ≡ keysIn (contentsOf many words) → tags ≡ tagsIn (contentsOf many words)
-      → All (λ e. rightMeasure e ≡ true) (contentsOf many words .entries)
-      → same words (fresh many (tagged (getD words orderWord 0) keys tags)) ≡ same words (fresh many (contentsOf many words))
-  unfolding contentsOf
-  compared keys tags e f right =
+  pub compared : (keys tags : List ℕ) → keys ≡ keysIn (contentsOf many words) → tags ≡ tagsIn (contentsRead many words)
+      → same words (fresh many (tagged (getD words orderWord 0) keys tags)) ≡ same words (fresh many (contentsRead many words))
+  unfolding contentsRead
+  compared keys tags e f =
       ap (λ (es : List Entry). same words (fresh many (record { order = getD words orderWord 0; entries = es })))
-      (ap₂ entriesTagged e f ∙ tagged-back (contentsOf many words .entries) right)
+      (ap₂ entriesTagged (e ∙ sym (keys-shown many words)) f ∙ tagged-back (contentsRead many words .entries) (read-right many words))

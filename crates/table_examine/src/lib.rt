@@ -11,7 +11,7 @@ ghost use Rattle.table.specs.Tags.{tagsIn};
 ghost use Rattle.table.specs.Table.{contentsOf};
 ghost use Rattle.table.specs.Sound.{soundWith};
 ghost use Rattle.table.specs.Contents.{keysIn};
-ghost use Rattle.table_decode.specs.Decode.{allStored};
+ghost use Rattle.table_decode.specs.Decode.{contentsRead};
 ghost use Rattle.table_examine.specs.Examine.{verdictOf};
 use priority::CONSTANT_COUNT;
 use table::ORDER_WORD;
@@ -23,7 +23,8 @@ pub enum Verdict {
 }
 
 // Write at the start of `keys` what a table of `many` slots shows as its keys, rising where they differ, and at the start of `tags` the tags of their
-// measures; how many there are. What `tags` holds where a key stands twice, and what the other lists then hold, is left open.
+// measures, that of no measure for one outside the rules; how many there are. What `tags` holds where a key stands twice, and what the other
+// lists then hold, is left open.
 fn read_keys(
     table: &[u64],
     many: usize,
@@ -33,11 +34,11 @@ fn read_keys(
     ranking: &mut [u16],
     spare: &mut [u16],
 ) -> usize
-    requires { ⌜ (tableWords many ≤ length (now table)) × (many ≤ mostSlots) × (allStored many (now table) ≡ true) ⌝ }
+    requires { ⌜ (tableWords many ≤ length (now table)) × (many ≤ mostSlots) ⌝ }
     requires { ⌜ (many ≤ length (now keys)) × (many ≤ length (now weights)) × (many ≤ length (now ranking)) × (many ≤ length (now spare)) × (many ≤ length (now tags)) ⌝ }
     ensures { λ r. ⌜ r ≡ length (keysIn (contentsOf many (now (table .entry)))) ⌝ }
     ensures { λ _. ⌜ now (keys .exit) ≡ overwrite (now (keys .entry)) 0 (keysIn (contentsOf many (now (table .entry)))) ⌝ }
-    ensures { λ _. ⌜ (risesB (keysIn (contentsOf many (now (table .entry)))) ≡ true → now (tags .exit) ≡ overwrite (now (tags .entry)) 0 (tagsIn (contentsOf many (now (table .entry))))) ⌝ }
+    ensures { λ _. ⌜ (risesB (keysIn (contentsOf many (now (table .entry)))) ≡ true → now (tags .exit) ≡ overwrite (now (tags .entry)) 0 (tagsIn (contentsRead many (now (table .entry))))) ⌝ }
 {
     let n = table_decode::collect(table, many, keys, tags);
     table_decode::sort_keys(keys, tags, n, weights, ranking, spare);
@@ -71,7 +72,7 @@ fn examine_within(
     slots: &mut [u16],
     constants: &[u64; CONSTANT_COUNT],
 ) -> Verdict
-    requires { ⌜ (0 < many) × (many ≤ mostSlots) × (length (now table) ≡ tableWords many) × (many ≤ length (now keys)) × (many ≤ length (now tags)) × (allStored many (now table) ≡ true) ⌝ }
+    requires { ⌜ (0 < many) × (many ≤ mostSlots) × (length (now table) ≡ tableWords many) × (many ≤ length (now keys)) × (many ≤ length (now tags)) ⌝ }
     requires { ⌜ (many ≤ length (now weights)) × (many ≤ length (now ranking)) × (many ≤ length (now left)) × (many ≤ length (now right)) ⌝ }
     requires { ⌜ (many ≤ length (now rank)) × (many ≤ length (now count)) × (many ≤ length (now leader)) × (many ≤ length (now slots)) × HoldsConstants (now constants) ⌝ }
     ensures { λ r. ⌜ r ≡ verdictOf many (now (table .entry)) ⌝ }
@@ -116,16 +117,16 @@ fn examine_within(
     conclude(same, n)
 }
 
-// Examine a table of `many` slots whose measures are within the rules, with room for it.
-fn examine_with_room(
+// Examine a table of `many` slots; where it is sound, its keys, rising, are then at the start of `keys`, and the tags of their measures at the
+// start of `tags`; where it is not, what these hold is left open. Internal to this library's crates: they lend the constants of the priorities.
+pub fn examine(
     table: &[u64],
     many: usize,
     keys: &mut [u64],
     tags: &mut [u64],
     constants: &[u64; CONSTANT_COUNT],
 ) -> Verdict
-    requires { ⌜ (0 < many) × (many ≤ mostSlots) × (length (now table) ≡ tableWords many) × (many ≤ length (now keys)) × (many ≤ length (now tags)) × (allStored many (now table) ≡ true) ⌝ }
-    requires { ⌜ HoldsConstants (now constants) ⌝ }
+    requires { ⌜ (0 < many) × (many ≤ mostSlots) × (length (now table) ≡ tableWords many) × (many ≤ length (now keys)) × (many ≤ length (now tags)) × HoldsConstants (now constants) ⌝ }
     ensures { λ r. ⌜ r ≡ verdictOf many (now (table .entry)) ⌝ }
     ensures { λ _. ⌜ (soundWith many (now (table .entry)) ≡ true → now (keys .exit) ≡ overwrite (now (keys .entry)) 0 (keysIn (contentsOf many (now (table .entry))))) ⌝ }
     ensures { λ _. ⌜ (soundWith many (now (table .entry)) ≡ true → now (tags .exit) ≡ overwrite (now (tags .entry)) 0 (tagsIn (contentsOf many (now (table .entry))))) ⌝ }
@@ -153,24 +154,4 @@ fn examine_with_room(
         &mut slots,
         constants,
     )
-}
-
-// Examine a table of `many` slots; where it is sound, its keys, rising, are then at the start of `keys`, and the tags of their measures at the
-// start of `tags`; where it is not, what these hold is left open. Internal to this library's crates: they lend the constants of the priorities.
-pub fn examine(
-    table: &[u64],
-    many: usize,
-    keys: &mut [u64],
-    tags: &mut [u64],
-    constants: &[u64; CONSTANT_COUNT],
-) -> Verdict
-    requires { ⌜ (0 < many) × (many ≤ mostSlots) × (length (now table) ≡ tableWords many) × (many ≤ length (now keys)) × (many ≤ length (now tags)) × HoldsConstants (now constants) ⌝ }
-    ensures { λ r. ⌜ r ≡ verdictOf many (now (table .entry)) ⌝ }
-    ensures { λ _. ⌜ (soundWith many (now (table .entry)) ≡ true → now (keys .exit) ≡ overwrite (now (keys .entry)) 0 (keysIn (contentsOf many (now (table .entry))))) ⌝ }
-    ensures { λ _. ⌜ (soundWith many (now (table .entry)) ≡ true → now (tags .exit) ≡ overwrite (now (tags .entry)) 0 (tagsIn (contentsOf many (now (table .entry))))) ⌝ }
-{
-    if !table_decode::are_stored(table, many) {
-        return Verdict::Unsound;
-    }
-    examine_with_room(table, many, keys, tags, constants)
 }

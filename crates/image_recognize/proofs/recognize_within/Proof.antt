@@ -11,16 +11,17 @@ use Rattle.lists.specs.Lists.{All, overwrite, same, lies}
 use Rattle.lists.proofs.Keep.{all-of-indices}
 use Rattle.lists.proofs.Start.{starts-with, as-long}
 use Rattle.table.specs.Layout.{mostSlots, leastOrder, greatestOrder}
-use Rattle.table.specs.Contents.{risingKeys, entryKeys, keysIn, rightMeasure}
-use Rattle.table.specs.Tags.{entryTags, tagsIn, tagged, Beside}
+use Rattle.table.specs.Contents.{risingKeys, keysIn, rightMeasure}
+use Rattle.table.specs.Tags.{tagsIn, tagged, Beside}
 use Rattle.table.proofs.Tagged.{tags-beside}
+use Rattle.table_decode.proofs.SortedInPlace.{Collected}
 use Rattle.table_prepare.specs.Prepared.{Keys}
 use Rattle.image_parts.specs.Written.{writtenTo}
 use Rattle.image.specs.Layout.{headerBytes, IsByte}
 use Rattle.image.specs.Image.{imageOf, readImage}
 use Rattle.image_collect.specs.Reading.{readable, entriesOf, RoomFor}
 use Rattle.image_collect.proofs.Readable.{unreadable, readable-header, readable-few, readable-fits}
-use Rattle.image_recognize.proofs.Recognizing.{orderShown, shown-right, shown-tagged, stop, wrong-order, not-rising, wrong-length, differs, can-be-written, is-one, accepted, told-readable, told-broken, told-number, shown-size, tags-size, sorted-over, tags-over, written-over}
+use Rattle.image_recognize.proofs.Recognizing.{orderShown, shown-right, shown-tagged, stop, wrong-order, not-rising, wrong-length, differs, can-be-written, is-one, accepted, told-readable, told-broken, told-number, shown-size, tags-size, keys-sorted, tags-sorted, written-over}
 use borrow.Author.Needs.{needs}
 use Rattle.image_recognize.proofs.recognize_within.Statement.{statement}
 use Rattle.image_recognize.proofs.recognize_within.Tie as tie
@@ -81,12 +82,6 @@ fits p room enough =
 has-header : (p : tie.After-found) → headerBytes ≤ length (bytes (read-at p))
 has-header p = readable-header (length (lent (read-at p))) (bytes (read-at p)) (was-readable p)
 
-keys-collected : (p : tie.After-found) → collected-keys (read-at p) ≡ overwrite (lent (read-at p)) 0 (entryKeys (entriesOf (bytes (read-at p))))
-keys-collected p = read-at p .collect .ensures .1 .0 (was-readable p)
-
-tags-collected : (p : tie.After-found) → collected-tags (read-at p) ≡ overwrite (lent-tags (read-at p)) 0 (entryTags (entriesOf (bytes (read-at p))))
-tags-collected p = read-at p .collect .ensures .1 .1 (was-readable p)
-
 right : (p : tie.After-found) → All (λ e. rightMeasure e ≡ true) (readImage (bytes (read-at p)) .entries)
 right p = shown-right (bytes (read-at p)) (length (lent (read-at p))) (was-readable p)
 
@@ -118,11 +113,24 @@ shown p = keysIn (readImage (bytes (read-at p)))
 abbrev tags-shown : tie.After-found → List ℕ
 tags-shown p = tagsIn (readImage (bytes (read-at p)))
 
+had : (p : tie.After-found) →
+    let r = read-at p in
+    Collected (entriesOf (bytes r)) (lent r) (collected-keys r) (lent-tags r) (collected-tags r) (size p)
+had p =
+    let collect = read-at p .collect in
+    record {
+      keys-are = collect .ensures .1 .0 (was-readable p);
+      tags-are = collect .ensures .1 .1 (was-readable p);
+      count = number p;
+      room = in-keys p;
+      more = in-tags p;
+    }
+
 sorted-is : (q : tie.After-sort-keys) → sorted q ≡ overwrite (lent (read-at (at q))) 0 (shown (at q))
 sorted-is q =
     let p = at q in
     let r = read-at p in
-    sorted-over (bytes r) (size p) (number p) (lent r) (collected-keys r) (sorted q) (keys-collected p) (in-keys p) (q .sort-keys .ensures .0)
+    keys-sorted (bytes r) (had p) (sorted q) (q .sort-keys .ensures .0)
 
 shown-long : (p : tie.After-found) → length (shown p) ≡ size p
 shown-long p = shown-size (bytes (read-at p)) (size p) (number p)
@@ -162,7 +170,7 @@ tags-are p =
     let q = sorted-at p in
     let f = at q in
     let r = read-at f in
-    tags-over (bytes r) (size f) (number f) (lent r) (collected-keys r) (lent-tags r) (collected-tags r) (sorted-tags q) (keys-collected f) (tags-collected f) (in-tags f) (rise p) (q .sort-keys .ensures .1)
+    tags-sorted (bytes r) (had f) (sorted-tags q) (q .sort-keys .ensures .1) (rise p)
 
 tags-taken : (p : tie.Else2) → take (size (at (sorted-at p))) (sorted-tags (sorted-at p)) ≡ tags-shown (at (sorted-at p))
 tags-taken p =

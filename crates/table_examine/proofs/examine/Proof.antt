@@ -1,32 +1,37 @@
--- `table_examine::examine` meets its contract. Assumes nothing.
-use mathlib.Core.Bool.{false}
-use mathlib.Core.Path.{_≡_, sym, _∙_}
-use borrow.Author.Tests.{not-true, not-false}
-use Rattle.lists.proofs.Tests.{true-or-false}
-use Rattle.table.specs.Sound.{soundWith}
-use Rattle.table_examine.proofs.Measured.{not-stored}
-use Rattle.table_examine.proofs.Verdicts.{unsound}
+-- `table_examine::examine` meets its contract: every list is as long as a table may have slots. Assumes nothing.
 use borrow.Author.Needs.{needs}
 use Rattle.table_examine.proofs.examine.Statement.{statement}
 use Rattle.table_examine.proofs.examine.Tie as tie
 
-are-stored-requires : tie.Need-are-stored-requires
-are-stored-requires c κs = search needs
+slice-aggregate-examine-within : tie.Need-slice-aggregate-examine-within
+slice-aggregate-examine-within c = search needs
 
-returns : tie.Need-returns
-returns c =
-    let start = c .before .before .before .before .before in
-    let many = start .args .many in
-    let words = start .args .table .now in
-    let stored = c .before .are-stored in
-    let e : soundWith many words ≡ false = not-stored many words (sym (stored .ensures) ∙ not-true (stored .result) (c .if1 .taken)) in
-    (unsound many words e, (λ t. absurd (true-or-false (soundWith many words) t e), λ t. absurd (true-or-false (soundWith many words) t e)))
+slice-aggregate-examine-within-2 : tie.Need-slice-aggregate-examine-within-2
+slice-aggregate-examine-within-2 c = search needs
 
-examine-with-room-requires : tie.Need-examine-with-room-requires
-examine-with-room-requires c κs =
-    let stored = c .before .before .before .are-stored in
-    let pre = c .before .before .before .before .before .before .before .pre in
-    ((pre .0, pre .1, pre .2, pre .3, pre .4, sym (stored .ensures) ∙ not-false (stored .result) (c .before .before .if1 .left)), pre .5)
+slice-aggregate-examine-within-3 : tie.Need-slice-aggregate-examine-within-3
+slice-aggregate-examine-within-3 c = search needs
+
+slice-aggregate-examine-within-4 : tie.Need-slice-aggregate-examine-within-4
+slice-aggregate-examine-within-4 c = search needs
+
+slice-aggregate-examine-within-5 : tie.Need-slice-aggregate-examine-within-5
+slice-aggregate-examine-within-5 c = search needs
+
+slice-aggregate-examine-within-6 : tie.Need-slice-aggregate-examine-within-6
+slice-aggregate-examine-within-6 c = search needs
+
+slice-aggregate-examine-within-7 : tie.Need-slice-aggregate-examine-within-7
+slice-aggregate-examine-within-7 c = search needs
+
+slice-aggregate-examine-within-8 : tie.Need-slice-aggregate-examine-within-8
+slice-aggregate-examine-within-8 c = search needs
+
+examine-within-requires : tie.Need-examine-within-requires
+examine-within-requires c κs =
+    let pre = c .before .before .before .before .before .before .before .before .before .before .before .before .before .pre in
+    let fit = pre .1 in
+    ((pre .0, pre .1, pre .2, pre .3, pre .4), ((fit, fit, fit, fit), (fit, fit, fit, fit, pre .5)))
 
 same-length : tie.Need-same-length
 same-length c = search needs
@@ -34,16 +39,22 @@ same-length c = search needs
 same-length-2 : tie.Need-same-length-2
 same-length-2 c = search needs
 
-returns-2 : tie.Need-returns-2
-returns-2 c = search needs
+returns : tie.Need-returns
+returns c = search needs
 
 pub examine-spec : {M : Type 1} → statement M
 examine-spec =
     tie.close
     (tie.spec
-    are-stored-requires
-    returns
-    examine-with-room-requires
+    slice-aggregate-examine-within
+    slice-aggregate-examine-within-2
+    slice-aggregate-examine-within-3
+    slice-aggregate-examine-within-4
+    slice-aggregate-examine-within-5
+    slice-aggregate-examine-within-6
+    slice-aggregate-examine-within-7
+    slice-aggregate-examine-within-8
+    examine-within-requires
     same-length
     same-length-2
-    returns-2)
+    returns)

@@ -7,12 +7,12 @@ use native.Mathlib.Omega.{arith}
 use lib.ListN.{length, getD, take}
 use lib.Seq.{length-take-le}
 use borrow.Author.Tests.{not-true, not-false}
-use Rattle.lists.specs.Lists.{All, lies, risesB, same}
+use Rattle.lists.specs.Lists.{All, lies, overwrite, risesB, same}
 use Rattle.lists.proofs.Start.{starts-with}
 use Rattle.lists.proofs.Tests.{true-or-false}
 use Rattle.table.specs.Layout.{leastOrder, greatestOrder, orderWord}
-use Rattle.table.specs.Contents.{Contents, tableOrder, keysIn, rightMeasure}
-use Rattle.table.specs.Tags.{tagsIn, tagged, Beside}
+use Rattle.table.specs.Contents.{Entry, Contents, tableOrder, keysIn, rightMeasure}
+use Rattle.table.specs.Tags.{entryTags, tagsIn, tagged, Beside}
 use Rattle.table.specs.Table.{fresh, contentsOf}
 use Rattle.table.specs.Sound.{soundWith}
 use Rattle.table.proofs.Soundness.{shown-fit}
@@ -21,7 +21,9 @@ use Rattle.table_prepare.specs.Prepared.{Keys}
 use Rattle.table_prepare.proofs.Preparing.{room}
 use Rattle.table_encode.specs.Encode.{Columns, wordsOf}
 use Rattle.table_encode.proofs.Linking.{linked, root-within, slots-low, prepared-words}
-use Rattle.table_examine.proofs.Measured.{stored-right}
+use Rattle.table_decode.specs.Decode.{contentsRead}
+use Rattle.table_examine.proofs.Measured.{read-right, sound-read}
+use Rattle.table_examine.proofs.KeysRead.{keys-shown}
 use Rattle.table_examine.proofs.Verdicts.{order-wrong, keys-do-not-rise, decided, unsound, verdict-is, keys-read, can-be-compared, compared}
 use borrow.Author.Needs.{needs}
 use Rattle.table_examine.proofs.examine_within.Statement.{statement}
@@ -63,34 +65,37 @@ few p = omega (arith, p .read-keys .ensures .0, shown-fit (slots-in p) (words-in
 fits : (p : tie.After-read-keys) → p .read-keys .result ≤ length (list-in p)
 fits p = room (list-in p) (keysIn (contentsOf (slots-in p) (words-in p))) (p .read-keys .result) (read p) (sym (p .read-keys .ensures .0))
 
-measures : (p : tie.After-read-keys) → All (λ e. rightMeasure e ≡ true) (contentsOf (slots-in p) (words-in p) .entries)
-measures p = stored-right (slots-in p) (words-in p) (begun p .pre .0 .5)
-
 -- ---- and once they are known to rise
 all-rise : (q : tie.Else2) → risesB (keysIn (contentsOf (slots-in (rises-tested q)) (words-in (rises-tested q)))) ≡ true
 all-rise q = ap risesB (sym (read (rises-tested q))) ∙ sym (q .before .rises .ensures) ∙ not-false (q .before .rises .result) (q .if2 .left)
 
-tags-read : (q : tie.Else2) →
-    let p = rises-tested q in
-    take (p .read-keys .result) (tags-in p) ≡ tagsIn (contentsOf (slots-in p) (words-in p))
+-- The set that is read.
+abbrev entries-in : tie.After-read-keys → List Entry
+entries-in p = contentsRead (slots-in p) (words-in p) .entries
+
+right-in : (p : tie.After-read-keys) → All (λ e. rightMeasure e ≡ true) (entries-in p)
+right-in p = read-right (slots-in p) (words-in p)
+
+tags-long : (p : tie.After-read-keys) → length (entryTags (entries-in p)) ≡ p .read-keys .result
+tags-long p =
+    tags-beside (entries-in p) (right-in p) .as-many
+    ∙ ap length (keys-shown (slots-in p) (words-in p))
+    ∙ sym (p .read-keys .ensures .0)
+
+tags-read : (q : tie.Else2) → let p = rises-tested q in take (p .read-keys .result) (tags-in p) ≡ entryTags (entries-in p)
 tags-read q =
     let p = rises-tested q in
-    let c = contentsOf (slots-in p) (words-in p) in
-    starts-with (tags-in p) (begun p .args .tags .now) (tagsIn c) (p .read-keys .result) (p .read-keys .ensures .1 .1 (all-rise q))
-    (tags-beside (c .entries) (measures p) .as-many ∙ sym (p .read-keys .ensures .0))
+    starts-with (tags-in p) (begun p .args .tags .now) (entryTags (entries-in p)) (p .read-keys .result) (p .read-keys .ensures .1 .1 (all-rise q)) (tags-long p)
 
 tags-fit : (q : tie.Else2) → rises-tested q .read-keys .result ≤ length (tags-in (rises-tested q))
-tags-fit q =
-    let p = rises-tested q in
-    let c = contentsOf (slots-in p) (words-in p) in
-    room (tags-in p) (tagsIn c) (p .read-keys .result) (tags-read q) (tags-beside (c .entries) (measures p) .as-many ∙ sym (p .read-keys .ensures .0))
+tags-fit q = let p = rises-tested q in room (tags-in p) (entryTags (entries-in p)) (p .read-keys .result) (tags-read q) (tags-long p)
 
 beside : (q : tie.Else2) →
     let p = rises-tested q in
     Beside (take (p .read-keys .result) (list-in p)) (take (p .read-keys .result) (tags-in p))
 beside q =
     let p = rises-tested q in
-    subst₂ Beside (sym (read p)) (sym (tags-read q)) (tags-beside (contentsOf (slots-in p) (words-in p) .entries) (measures p))
+    subst₂ Beside (keys-shown (slots-in p) (words-in p) ∙ sym (read p)) (sym (tags-read q)) (tags-beside (entries-in p) (right-in p))
 
 comparable : (q : tie.Else2) → Keys (getD (words-in (rises-tested q)) orderWord 0) (take (rises-tested q .read-keys .result) (list-in (rises-tested q)))
 comparable q =
@@ -108,8 +113,8 @@ compares m =
     let tags = take (p .read-keys .result) (tags-in p) in
     let shown : Contents = tagged (getD (words-in p) orderWord 0) (take (p .read-keys .result) (list-in p)) tags in
     let keys = comparable (tested m) in
-    decided (slots-in p) (words-in p) (right p) (all-rise (tested m)) (measures p)
-    ∙ sym (compared (slots-in p) (words-in p) (take (p .read-keys .result) (list-in p)) tags (read p) (tags-read (tested m)) (measures p))
+    decided (slots-in p) (words-in p) (right p) (all-rise (tested m))
+    ∙ sym (compared (slots-in p) (words-in p) (take (p .read-keys .result) (list-in p)) tags (read p) (tags-read (tested m)))
     ∙ ap (λ (m : ℕ). same (words-in p) (fresh m shown)) (sym (m .prepare .ensures .1))
     ∙ ap (same (words-in p)) (sym (prepared-words (getD (words-in (rises-tested (tested m))) orderWord 0) (comparable (tested m) .wide) (take ((rises-tested (tested m)) .read-keys .result) (list-in (rises-tested (tested m)))) (m .prepare .last .1 .1 .1 .1 .1 .0) (m .prepare .last .1 .1 .1 .1 .1 .1 .0) (m .prepare .last .1 .1 .1 .1 .1 .1 .1 .0) (m .prepare .last .1 .1 .1 .1 .1 .1 .1 .1 .0) (m .prepare .last .1 .1 .1 .1 .1 .1 .1 .1 .1 .0) (take (slots-in (rises-tested (tested m))) (m .prepare .last .1 .1 .1 .1 .1 .1 .1 .1 .1 .1 .0)) (m .prepare .result) (m .prepare .ensures .0) (keys .rising) (keys .some) tags (beside (tested m))))
 
@@ -132,7 +137,7 @@ returns c =
 read-keys-requires : tie.Need-read-keys-requires
 read-keys-requires c κs =
     let pre = c .before .before .before .before .before .before .before .before .before .before .before .before .before .before .before .before .before .before .before .pre in
-    ((omega (arith, pre .0 .2), pre .0 .1, pre .0 .5), (pre .0 .3, pre .1 .0 .0, pre .1 .0 .1, pre .1 .0 .2, pre .0 .4))
+    ((omega (arith, pre .0 .2), pre .0 .1), (pre .0 .3, pre .1 .0 .0, pre .1 .0 .1, pre .1 .0 .2, pre .0 .4))
 
 rises-requires : tie.Need-rises-requires
 rises-requires c κs = fits (c .before .before .before .before .before .before .before .before .before .before .before)
@@ -251,7 +256,12 @@ returns-3 c =
     let p = rises-tested (tested m) in
     let matches = c .before .matches in (
       c .conclude .ensures ∙ verdict-is (slots-in p) (words-in p) (matches .result) (p .read-keys .result) (compares m ∙ sym (matches .ensures)) (p .read-keys .ensures .0),
-      (λ t. p .read-keys .ensures .1 .0, λ t. p .read-keys .ensures .1 .1 (all-rise (tested m))),
+      (
+        λ t. p .read-keys .ensures .1 .0,
+        λ t.
+            p .read-keys .ensures .1 .1 (all-rise (tested m))
+            ∙ ap (λ (c : Contents). overwrite (begun p .args .tags .now) 0 (tagsIn c)) (sound-read (slots-in p) (words-in p) t),
+      ),
     )
 
 pub examine-within-spec : {M : Type 1} → statement M
