@@ -1,5 +1,5 @@
--- Document 01's examples A to H as one table: what is given of each, and what the definitions must make of it.
--- The order is 3 throughout. Assumes nothing.
+-- Document 01's examples A to H as one table: what is given of each, and what the definitions must make of it. Behind it the image of two keys
+-- of which one is measured (document 02, N4). The order is 3 throughout. Assumes nothing.
 use mathlib.Core.Bool.{cond, not}
 use mathlib.Core.List.{List, [], _∷_, _++_, map}
 use Prim.Native.Nat.{ℕ, suc}
