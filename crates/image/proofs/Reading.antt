@@ -1,7 +1,7 @@
 -- What the bytes of an image show is what it was written from. Assumes valid contents; of blocks, where any are read, that their
 -- keys are 64-bit numbers, that the number of these fits its field, and measures within the rules.
 use mathlib.Core.Bool.{true}
-use mathlib.Core.List.{List, [], _∷_, _++_, map, flatMap, append-assoc, append-nil, List·Permᴰ, Permᴰ·map, Permᴰ·symm}
+use mathlib.Core.List.{List, [], _∷_, _++_, map, map-append, flatMap, append-assoc, append-nil, List·Permᴰ, Permᴰ·map, Permᴰ·symm}
 use mathlib.Core.Path.{_≡_, refl, sym, ap, ap₂, _∙_, subst}
 use Prim.Native.Nat.{ℕ, suc, _+_, _^_, _≤_, _<_}
 use native.Mathlib.Omega.{arith}
@@ -37,10 +37,6 @@ pub record Readable (b : Block) : Type 0 where
 -- A key with its measure.
 abbrev pub entryBy : (ℕ → Measure) → ℕ → Entry
 entryBy m key = record { key = key; measure = m key }
-
-map-append : {A B : Type 0} (f : A → B) (xs ys : List A) → map f (xs ++ ys) ≡ map f xs ++ map f ys
-map-append f [] ys = refl
-map-append {B = B} f (x ∷ xs) ys = ap (λ (zs : List B). f x ∷ zs) (map-append f xs ys)
 
 module _ (α : ℕ) (p : ℕ → ℕ) (m : ℕ → Measure) (ks : List ℕ) where
   -- ---- how many bytes node records have, and what is left after them
