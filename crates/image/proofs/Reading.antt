@@ -22,7 +22,7 @@ use Rattle.treap.specs.Image.{orderBytes, countBytes, blockRecord, nodeOf, bloc
 use Rattle.treap_structure.proofs.Blocks.{Holds, blocks-hold}
 use Rattle.image.proofs.ImageOrder.{before, image-order, held-total}
 use Rattle.table.specs.Layout.{mostSlots}
-use Rattle.table.specs.Contents.{Entry, Contents, IsKey, Valid, entryKeys, keysIn, measureIn, keyBelow}
+use Rattle.table.specs.Contents.{Entry, Contents, IsKey, Valid, keysIn, measureIn, keyBelow}
 use Rattle.table.proofs.Entries.{found-right, entryAt, entries-by-keys, sorted-entries}
 use Rattle.image.specs.Layout.{headerBytes, blockBytes, orderAt, blocksAt, heldAt}
 use Rattle.image.specs.Image.{imageOf, fieldAt, nodeSpan, entryShown, nodeEntries, nodesSpan, blockEntries, readImage}
@@ -174,14 +174,6 @@ module _ (c : Contents) (valid : Valid mostSlots c) where
       let parts = flatMap (blockPart (c .order) priorityOf (measureIn (c .entries)) (keysIn c)) bs in
       ap₂ (λ (n : ℕ) (bytes : List ℕ). blockEntries n bytes) number-read (parts-read ∙ sym (append-nil parts))
       ∙ blocks-read (c .order) priorityOf (measureIn (c .entries)) (keysIn c) measured-right bs blocks-readable []
-
-  -- and so their keys
-  pub keys-read : entryKeys (blockEntries (fieldAt blocksAt countBytes (imageOf c)) (drop headerBytes (imageOf c))) ≡ flatMap (λ b. b .held) (blocks (c .order) priorityOf (keysIn c))
-  keys-read = ap entryKeys entries-read ∙ again (flatMap (λ b. b .held) (blocks (c .order) priorityOf (keysIn c)))
-    where
-      again : (xs : List ℕ) → entryKeys (map (entryAt (c .entries)) xs) ≡ xs
-      again [] = refl
-      again (x ∷ xs) = ap (λ (ys : List ℕ). x ∷ ys) (again xs)
 
   keys-permuted : List·Permᴰ (keysIn c) (flatMap (λ b. b .held) (blocks (c .order) priorityOf (keysIn c)))
   keys-permuted =

@@ -8,7 +8,7 @@ use mathlib.Core.Path.{_≡_, refl, sym, ap, ap₂, _∙_, subst}
 use Prim.Native.Nat.{ℕ, zero, suc, _≤_, _<_}
 use native.Mathlib.Omega.{arith}
 use lib.Dec.{eqb, ltb}
-use lib.ListN.{length, getD, length-map}
+use lib.ListN.{length, getD}
 use borrow.Author.Tests.{eq-eqb, ne-eqb, eqb-false}
 use Rattle.lists.specs.Lists.{All, Rising, member, insertBy, sortBy}
 use Rattle.lists.proofs.Tests.{by-test, or-false-left, or-false-right}
@@ -95,9 +95,6 @@ pub with-keys : (keys : List ℕ) (measures : List Measure) → entryKeys (entri
 with-keys [] measures = refl
 with-keys (k ∷ keys) [] = ap (λ (ks : List ℕ). k ∷ ks) (with-keys keys [])
 with-keys (k ∷ keys) (m ∷ measures) = ap (λ (ks : List ℕ). k ∷ ks) (with-keys keys measures)
-
-pub with-length : (keys : List ℕ) (measures : List Measure) → length (entriesWith keys measures) ≡ length keys
-with-length keys measures = sym (length-map (entriesWith keys measures) (λ e. e .key)) ∙ ap length (with-keys keys measures)
 
 pub with-right : (keys : List ℕ) (measures : List Measure) → All (λ m. isMeasure m ≡ true) measures
     → All (λ e. rightMeasure e ≡ true) (entriesWith keys measures)

@@ -11,14 +11,11 @@ use Rattle.measure.specs.Tag.{tagOf, measureAt, isTag}
 use Rattle.measure.proofs.Tags.{measure-of-tag, tag-of-measure, measure-tags, no-tag}
 use Rattle.table.specs.Contents.{Entry, entryKeys, measureIn, rightMeasure}
 use Rattle.table.specs.Tags.{entryTags, entriesTagged, Beside}
-use Rattle.table.proofs.Entries.{with-keys, with-length, found-beside}
+use Rattle.table.proofs.Entries.{with-keys, found-beside}
 
 -- ---- keys and tags are entries
 pub tagged-keys : (keys tags : List ℕ) → entryKeys (entriesTagged keys tags) ≡ keys
 tagged-keys keys tags = with-keys keys (map measureAt tags)
-
-pub tagged-length : (keys tags : List ℕ) → length (entriesTagged keys tags) ≡ length keys
-tagged-length keys tags = with-length keys (map measureAt tags)
 
 pub tagged-tags : (keys tags : List ℕ) → Beside keys tags → entryTags (entriesTagged keys tags) ≡ tags
 tagged-tags keys tags beside = both keys tags (beside .as-many) (beside .right)

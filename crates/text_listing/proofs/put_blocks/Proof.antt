@@ -24,9 +24,6 @@ abbrev μ-loop : tie.MeasureT-loop
 ends : (c : tie.After-block-end Inv-loop μ-loop) → c .block-end .result ≡ endFrom (c .before .before .before .before .before .args .records .now) (c .before .before .loop .start)
 ends c = c .block-end .ensures
 
-inside : (c : tie.After-block-end Inv-loop μ-loop) → c .block-end .result ≤ length (c .before .before .before .before .before .args .records .now)
-inside c = omega (arith, ends c, coming-end (c .before .before .loop .inv .0) (c .before .loop-test .taken))
-
 -- the bytes from its record on, as they are handed on
 abbrev begun : tie.At-loop Inv-loop μ-loop → tie.Start Inv-loop μ-loop
 begun p = p .before .before .before
