@@ -1,5 +1,4 @@
--- The parts of the blocks, one after the other: the invariant of `put_blocks`, its steps and its end; and the length of an image.
--- Assumes nothing.
+-- The parts of the blocks, one after the other: the invariant of `put_blocks`, its steps and its end. Assumes nothing.
 use mathlib.Core.List.{List, [], _++_, flatMap, append-nil, append-assoc}
 use mathlib.Core.Path.{_≡_, refl, sym, ap, _∙_}
 use Prim.Native.Nat.{ℕ, _+_, _≤_}

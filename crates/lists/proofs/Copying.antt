@@ -1,5 +1,5 @@
 -- Loops that count the elements of a list that pass a test, or copy them to the start of an output, one element at a time.
--- The output may be the list itself. Assumes nothing.
+-- Assumes nothing.
 use mathlib.Core.Bool.{Bool, true, false}
 use mathlib.Core.List.{List, [], _∷_, _++_, append-nil}
 use mathlib.Core.Path.{_≡_, refl, sym, ap, _∙_}

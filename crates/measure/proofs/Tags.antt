@@ -1,4 +1,4 @@
--- A measure's tag shows the measure again, and a tag is below 2^32. Assumes nothing.
+-- A measure's tag shows the measure again, and a tag is that of the measure that it shows. Assumes measures within the rules, where it says so.
 use mathlib.Core.Bool.{true}
 use mathlib.Core.Path.{_≡_, sym, ap, ap₂, _∙_, subst₂}
 use Prim.Native.Nat.{ℕ}
