@@ -9,7 +9,7 @@ use borrow.Author.Tests.{eq-eqb, ne-eqb}
 use Rattle.lists.specs.Lists.{overwrite}
 use Rattle.lists.proofs.Parts.{set-is, overwrite-more, overwrite-next}
 use Rattle.treap.specs.Image.{littleEndian, orderBytes, countBytes, keyBytes, lengthBytes, correctionBytes, headerMark, blockMark, nodeMark, measuredMark, headerRecord, blockRecord, nodeFields, nodeRecord}
-use Rattle.image.specs.Layout.{headerBytes, blockBytes, nodeBytes, measureBytes, recordBytes}
+use Rattle.image.specs.Layout.{headerBytes, blockBytes, nodeBytes, measureBytes, recordBytes, lengthAt, correctionAt}
 
 -- the two bytes of a mark
 pub mark-written : (before : List ℕ) (at a b : ℕ) → at + 2 ≤ length before → set (set before at a) (at + 1) b ≡ overwrite before at (a ∷ b ∷ [])
@@ -95,12 +95,12 @@ module _ (before output : List ℕ) (at key left right rank count long stored : 
 
   pub measured-written : (common lengthened : List ℕ) → long ≢ 0 → at + recordBytes long ≤ length before
       → common ≡ overwrite before at (measuredMark ++ nodeFields key left right rank count)
-      → lengthened ≡ overwrite common (at + 30) (littleEndian lengthBytes long)
-      → output ≡ overwrite lengthened (at + 34) (littleEndian correctionBytes stored)
+      → lengthened ≡ overwrite common (at + lengthAt) (littleEndian lengthBytes long)
+      → output ≡ overwrite lengthened (at + correctionAt) (littleEndian correctionBytes stored)
       → output ≡ overwrite before at (nodeRecord key left right rank count long stored)
   unfolding nodeRecord nodeFields
   measured-written common lengthened d room c l s =
       let part = measuredMark ++ nodeFields key left right rank count in
       let fits = measured-room d room in
-      let e = field-written before at part common (littleEndian lengthBytes long) lengthened 30 refl (omega arith) c l in
-      rw (ne-eqb long 0 d) (field-written before at (part ++ littleEndian lengthBytes long) lengthened (littleEndian correctionBytes stored) output 34 refl (omega arith) e s)
+      let e = field-written before at part common (littleEndian lengthBytes long) lengthened lengthAt refl (omega arith) c l in
+      rw (ne-eqb long 0 d) (field-written before at (part ++ littleEndian lengthBytes long) lengthened (littleEndian correctionBytes stored) output correctionAt refl (omega arith) e s)

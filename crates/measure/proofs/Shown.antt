@@ -7,7 +7,7 @@ use lib.IntN.{ℤ}
 use mir.Syntax.{w64}
 use mir.Val.{SFits, toZ, ofZ}
 use Rattle.lists.proofs.Tests.{by-test}
-use Rattle.measure.specs.Measure.{measureFrom}
+use Rattle.measure.specs.Measure.{greatestCorrection, measureFrom}
 use Rattle.measure.specs.Tag.{storedValues}
 use Rattle.measure.proofs.Integers.{mag-below, reads-back}
 
@@ -16,7 +16,7 @@ unfolding measureFrom
 correction-fits l s h =
     by-test (eqb l 0)
     (λ t. rw t (record { sfits = omega arith }))
-    (λ t. rw t (record { sfits = mag-below s 5000 _ (omega arith) (omega arith) }))
+    (λ t. rw t (record { sfits = mag-below s greatestCorrection _ (omega arith) (omega arith) }))
 
 pub correction-back : (l s : ℕ) (z : ℤ) → s < storedValues → z ≡ measureFrom l s .correction → toZ w64 (ofZ w64 z) ≡ measureFrom l s .correction
 correction-back l s z h e = reads-back w64 z (measureFrom l s .correction) e (correction-fits l s h)

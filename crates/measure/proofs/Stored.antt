@@ -9,7 +9,7 @@ use borrow.Author.Tests.{leb-true, le-leb, eqb-true, eq-eqb}
 use Rattle.lists.specs.Lists.{lies}
 use Rattle.lists.proofs.Tests.{by-test, and-both, and-left, and-right, lies-says}
 use Rattle.measure.specs.Measure.{Measure, leastLength, greatestLength, leastCorrection, greatestCorrection, unmeasured, liesZ, isMeasure, storedCorrection, measureFrom}
-use Rattle.measure.specs.Tag.{isStored}
+use Rattle.measure.specs.Tag.{greatestStored, isStored}
 use Rattle.measure.proofs.Integers.{lies-zero, raised-positive, raised-upto, lowered-lies, lowered-raised}
 
 -- ---- with no length, and with one
@@ -36,12 +36,12 @@ module _ (l s : ℕ) where
   unfolding isStored
   none-stored e h = eqb-true s 0 (rw e at h)
 
-  some-stored : eqb l 0 ≡ false → isStored l s ≡ true → (lies leastLength greatestLength l ≡ true) × (s ≤ 10000)
+  some-stored : eqb l 0 ≡ false → isStored l s ≡ true → (lies leastLength greatestLength l ≡ true) × (s ≤ greatestStored)
   unfolding isStored
   some-stored e h =
       let length = lies leastLength greatestLength l in
-      let both : (length && leb s 10000) ≡ true = rw e at h in
-      (and-left length (leb s 10000) both, leb-true s 10000 (and-right length (leb s 10000) both))
+      let both : (length && leb s greatestStored) ≡ true = rw e at h in
+      (and-left length (leb s greatestStored) both, leb-true s greatestStored (and-right length (leb s greatestStored) both))
 
 -- ---- a measure is shown again
 pub from-length : (l s : ℕ) → measureFrom l s .length ≡ l
@@ -52,10 +52,10 @@ pub read-back : (m : Measure) → isMeasure m ≡ true → measureFrom (m .lengt
 unfolding measureFrom storedCorrection
 read-back m h = ap (λ (z : ℤ). record { length = m .length; correction = z }) again
   where
-    again : cond (eqb (m .length) 0) (pos 0) (pos (cond (eqb (m .length) 0) 0 (natAbs (m .correction +ℤ pos 5000))) -ℤ pos 5000) ≡ m .correction
+    again : cond (eqb (m .length) 0) (pos 0) (pos (cond (eqb (m .length) 0) 0 (natAbs (m .correction +ℤ pos greatestCorrection))) -ℤ pos greatestCorrection) ≡ m .correction
     again =
         by-test (eqb (m .length) 0) (λ e. rw e (sym (none-corrected m e h)))
-        (λ e. rw e (ap (λ (z : ℤ). z -ℤ pos 5000) (raised-positive 4999 (m .correction) (measured m e h .1)) ∙ +ℤ-negℤ-cancel (m .correction) (pos 5000)))
+        (λ e. rw e (ap (λ (z : ℤ). z -ℤ pos greatestCorrection) (raised-positive 4999 (m .correction) (measured m e h .1)) ∙ +ℤ-negℤ-cancel (m .correction) (pos greatestCorrection)))
 
 -- ---- and so is what is stored
 module _ (l s : ℕ) where
@@ -75,13 +75,13 @@ measure-stored m h =
     by-test (eqb (m .length) 0) (λ e. rw e refl)
     (λ e.
     let (long, near) = measured m e h in
-    rw e (and-both _ _ long (le-leb _ 10000 (raised-upto 4999 (m .correction) near))))
+    rw e (and-both _ _ long (le-leb _ greatestStored (raised-upto 4999 (m .correction) near))))
 
 module _ (l s : ℕ) where
-  pub stored-bounds : isStored l s ≡ true → (l ≤ 40000) × (s ≤ 10000)
+  pub stored-bounds : isStored l s ≡ true → (l ≤ greatestLength) × (s ≤ greatestStored)
   stored-bounds h =
       by-test (eqb l 0) (λ e. let none = eqb-true l 0 e in let few = none-stored l s e h in omega arith)
-      (λ e. let (long, few) = some-stored l s e h in (lies-says 10000 40000 l long .1, few))
+      (λ e. let (long, few) = some-stored l s e h in (lies-says leastLength greatestLength l long .1, few))
 
 -- ---- not measured
 pub unmeasured-right : isMeasure unmeasured ≡ true

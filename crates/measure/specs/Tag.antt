@@ -5,10 +5,14 @@ use lib.Dec.{eqb, leb}
 use Rattle.lists.specs.Lists.{lies}
 use Rattle.measure.specs.Measure.{Measure, leastLength, greatestLength, greatestCorrection, storedCorrection, measureFrom}
 
+-- The greatest stored correction: 5,000 plus 5,000.
+abbrev pub greatestStored : ℕ
+greatestStored = greatestCorrection + greatestCorrection
+
 -- A length and a stored correction that a measure within the rules has.
 unfoldable pub isStored : ℕ → ℕ → Bool
 isStored length stored =
-    cond (eqb length 0) (eqb stored 0) (lies leastLength greatestLength length && leb stored (greatestCorrection + greatestCorrection))
+    cond (eqb length 0) (eqb stored 0) (lies leastLength greatestLength length && leb stored greatestStored)
 
 -- A length and a stored correction in one number, and the two in it: a stored correction is below this number.
 abbrev pub storedValues : ℕ

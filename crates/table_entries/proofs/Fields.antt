@@ -8,6 +8,7 @@ use native.Mathlib.Omega.{arith}
 use lib.ListN.{getD}
 use borrow.Author.Tests.{eq-eqb, ne-eqb, lt-ltb, le-ltb}
 use Rattle.measure.specs.Measure.{isMeasure, storedCorrection, measureFrom}
+use Rattle.measure.specs.Tag.{storedValues}
 use Rattle.measure.proofs.Stored.{read-back, measure-stored, stored-bounds}
 use Rattle.priority.specs.Priority.{priorityOf}
 use Rattle.treap.specs.Treap.{top, leftLink, rightLink}
@@ -81,7 +82,7 @@ module _ (many : ℕ) (words : List ℕ) (k slot : ℕ) (at : InSlot many words 
   measure-right : isMeasure (measureIn (c .entries) k) ≡ true
   measure-right = found-right (c .entries) k (sound-measures many words (at .sound))
 
-  pub stored-small : getD words (slotStart slot + correctionField) 0 ≤ 10000
+  pub stored-small : getD words (slotStart slot + correctionField) 0 < storedValues
   stored-small =
       let m = measureIn (c .entries) k in
       omega (arith, stored-is, stored-bounds (m .length) (storedCorrection m) (measure-stored m measure-right) .1)

@@ -8,6 +8,7 @@ use lib.Signed.{nonNeg}
 use mir.Syntax.{w32, w64}
 use mir.Val.{Fits, SFits, toZ, ofZ}
 use mir.ValLaws.{toZ-ofZ}
+use Rattle.measure.specs.Measure.{greatestCorrection}
 use Rattle.measure.proofs.Integers.{raised-positive, raised-upto, reads-back}
 use Rattle.measure.proofs.raised.Statement.{statement}
 use Rattle.measure.proofs.raised.Tie as tie
@@ -15,15 +16,15 @@ use Rattle.measure.proofs.raised.Tie as tie
 -- the sum, which is not negative and fits
 module _ (c : tie.Start) where
   abbrev value : ℕ
-  value = natAbs (c .args .correction +ℤ pos 5000)
+  value = natAbs (c .args .correction +ℤ pos greatestCorrection)
 
-  machine : toZ w32 (ofZ w32 (c .args .correction)) +ℤ pos 5000 ≡ pos value
-  machine = ap (λ (y : ℤ). y +ℤ pos 5000) (toZ-ofZ w32 (c .args .correction) (c .fits .correction)) ∙ sym (raised-positive 4999 (c .args .correction) (c .pre))
+  machine : toZ w32 (ofZ w32 (c .args .correction)) +ℤ pos greatestCorrection ≡ pos value
+  machine = ap (λ (y : ℤ). y +ℤ pos greatestCorrection) (toZ-ofZ w32 (c .args .correction) (c .fits .correction)) ∙ sym (raised-positive 4999 (c .args .correction) (c .pre))
 
   small : SFits w32 (pos value)
   small = record { sfits = omega (arith, raised-upto 4999 (c .args .correction) (c .pre)) }
 
-  again : toZ w32 (ofZ w32 (toZ w32 (ofZ w32 (c .args .correction)) +ℤ pos 5000)) ≡ pos value
+  again : toZ w32 (ofZ w32 (toZ w32 (ofZ w32 (c .args .correction)) +ℤ pos greatestCorrection)) ≡ pos value
   again = reads-back w32 _ (pos value) machine small
 
 add-result : tie.Need-add-result

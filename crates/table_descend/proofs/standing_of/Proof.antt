@@ -43,7 +43,7 @@ returns c =
     (c .before .before .before .word-of3 .result) (c .before .before .word-of4 .result) (c .before .word-of5 .result) (long .result) _
     (c .before .before .before .word-of3 .ensures) (c .before .before .word-of4 .ensures) (c .before .word-of5 .ensures) (long .ensures)
     (correction-back (getD words (slotStart slot + lengthField) 0) (getD words (slotStart slot + correctionField) 0) (c .correction-from .result)
-    (omega (arith, stored-small (start .args .many) words (start .args .key) slot (start .pre)))
+    (stored-small (start .args .many) words (start .args .key) slot (start .pre))
     (c .correction-from .ensures ∙ ap₂ (λ (l m : ℕ). measureFrom l m .correction) (long .ensures) (stored .ensures)))
 
 pub standing-of-spec : {M : Type 1} → statement M
