@@ -1,5 +1,5 @@
 -- Integers that are a bound above or below natural numbers, their tests, and what the machine reads back. Assumes nothing.
-use mathlib.Core.Bool.{Bool, true, false, not, cond, _&&_}
+use mathlib.Core.Bool.{Bool, true, false, not, cond}
 use mathlib.Core.Path.{_≡_, refl, ap, _∙_}
 use Prim.Native.Nat.{ℕ, suc, _+_, _-_, _≤_, _<_}
 use native.Mathlib.Omega.{arith}
@@ -70,10 +70,3 @@ mag-below a b m h k = by-sign (λ z. mag z < m) a b (λ l. omega arith) (λ l. o
 -- ---- a signed result, read back
 pub reads-back : (w : Width) (z y : ℤ) → z ≡ y → SFits w y → toZ w (ofZ w z) ≡ y
 reads-back w z y e f = ap (λ (x : ℤ). toZ w (ofZ w x)) e ∙ toZ-ofZ w y f
-
--- ---- what a test that comes first leaves of two
-pub and-true : (a b : Bool) → a ≡ true → b ≡ (a && b)
-and-true a b e = rw e
-
-pub and-false : (a b : Bool) → a ≡ false → a ≡ (a && b)
-and-false a b e = rw e

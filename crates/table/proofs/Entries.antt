@@ -5,17 +5,16 @@ use mathlib.Core.List.{List, [], _∷_, map, List·Permᴰ, Permᴰ·map, Perm�
 use mathlib.Core.List.List·Permᴰ.{List·Permᴰ·trans}
 use mathlib.Core.Logic.{_≢_}
 use mathlib.Core.Path.{_≡_, refl, sym, ap, ap₂, _∙_, subst}
-use Prim.Native.Nat.{ℕ, zero, suc, _≤_, _<_}
+use Prim.Native.Nat.{ℕ, zero, suc, _<_}
 use native.Mathlib.Omega.{arith}
 use lib.Dec.{eqb, ltb}
 use lib.ListN.{length, getD}
 use borrow.Author.Tests.{eq-eqb, ne-eqb, eqb-false}
 use Rattle.lists.specs.Lists.{All, Rising, member, insertBy, sortBy}
 use Rattle.lists.proofs.Tests.{by-test, or-false-left, or-false-right}
-use Rattle.lists.proofs.Keep.{all-always, all-at}
-use Rattle.lists.proofs.Pairwise.{pairwise-map}
+use Rattle.lists.proofs.Keep.{all-at}
 use Rattle.lists.proofs.Sorting.{all-permuted, sortBy-permutes}
-use Rattle.lists.proofs.Sorted.{sorted-unique, sorted-rising-fixed}
+use Rattle.lists.proofs.Sorted.{sorted-unique, rising-ordered, sorted-rising-fixed}
 use Rattle.measure.specs.Measure.{Measure, unmeasured, isMeasure}
 use Rattle.measure.proofs.Stored.{unmeasured-right}
 use Rattle.table.specs.Contents.{Entry, entryKeys, measureIn, keyBelow, entriesWith, rightMeasure}
@@ -74,8 +73,7 @@ entries-by-keys es h = rebuilt es es (found-self es h)
 -- keys that rise are the sorted ones of entries with the same members
 keys-sorted : (es fs : List Entry) → List·Permᴰ es fs → Rising (entryKeys es) → entryKeys es ≡ sortBy ltb (entryKeys fs)
 keys-sorted es fs same rise =
-    sorted-unique (entryKeys fs) (entryKeys es) (Permᴰ·map (λ e. e .key) same)
-    (pairwise-map (λ x. Unit {0}) _<_ _≤_ (λ x y p q (l : x < y). omega arith) (entryKeys es) (all-always (λ x. Unit {0}) (λ x. tt) (entryKeys es)) rise)
+    sorted-unique (entryKeys fs) (entryKeys es) (Permᴰ·map (λ e. e .key) same) (rising-ordered (entryKeys es) rise)
 
 pub entries-unique : (es fs : List Entry) → List·Permᴰ es fs → Rising (entryKeys es) → Rising (entryKeys fs) → es ≡ fs
 entries-unique es fs same rise rises =

@@ -5,7 +5,6 @@ use mir.Syntax.{w32}
 use mir.Val.{toZ, ofZ}
 use mir.ValLaws.{toZ-ofZ}
 use Rattle.measure.specs.Measure.{liesZ}
-use Rattle.measure.proofs.Integers.{and-true, and-false}
 use Rattle.measure.proofs.is_between.Statement.{statement}
 use Rattle.measure.proofs.is_between.Tie as tie
 
@@ -20,13 +19,17 @@ module _ (c : tie.Start) where
   high : toZ w32 (ofZ w32 (c .args .high)) ≡ c .args .high
   high = toZ-ofZ w32 (c .args .high) (c .fits .high)
 
+  -- and the test that comes first
+  first : leZ (toZ w32 (ofZ w32 (c .args .low))) (toZ w32 (ofZ w32 (c .args .number))) ≡ leZ (c .args .low) (c .args .number)
+  first = ap₂ leZ low number
+
 returns : tie.Need-returns
 unfolding liesZ
-returns c = ap₂ leZ (number (c .before)) (high (c .before)) ∙ and-true _ _ (sym (ap₂ leZ (low (c .before)) (number (c .before))) ∙ c .if1 .taken)
+returns c = rw (sym (first (c .before)) ∙ c .if1 .taken) (ap₂ leZ (number (c .before)) (high (c .before)))
 
 returns-2 : tie.Need-returns-2
 unfolding liesZ
-returns-2 c = ap₂ leZ (low (c .before)) (number (c .before)) ∙ and-false _ _ (sym (ap₂ leZ (low (c .before)) (number (c .before))) ∙ c .if1 .left)
+returns-2 c = rw (sym (first (c .before)) ∙ c .if1 .left) (c .if1 .left)
 
 pub is-between-spec : {M : Type 1} → statement M
 is-between-spec = tie.close (tie.spec returns returns-2)
