@@ -1,23 +1,19 @@
 -- What is known of a table that is known to be sound, and of the one written after it. Assumes nothing.
 use mathlib.Core.List.{List}
-use mathlib.Core.Path.{_≡_, sym, ap, ap₂, _∙_, subst, subst₂}
+use mathlib.Core.Path.{_≡_, sym, ap, _∙_, subst}
 use Prim.Native.Nat.{ℕ, _<_, _≤_}
 use native.Mathlib.Omega.{arith}
-use lib.ListN.{length, getD, take, length-map, length-take}
-use Rattle.measure.specs.Tag.{tagOf}
+use lib.ListN.{length, getD, take, length-take}
 use Rattle.table.specs.Layout.{mostSlots, sizeWord, tableWords}
 use Rattle.table.specs.Contents.{Entry, Contents, entryKeys, keysIn, Valid}
 use Rattle.table.specs.Tags.{entryTags, tagsIn, entriesTagged, Beside}
 use Rattle.table.specs.Table.{fresh, contentsOf}
-use Rattle.table.proofs.Tagged.{tagged-back, tags-beside}
+use Rattle.table.proofs.Tagged.{tags-many, beside-of, tagged-is}
 use Rattle.table.proofs.Words.{fresh-length, fresh-size}
 use Rattle.table.proofs.Soundness.{WordSized, sound-exactly, sound-valid}
 use Rattle.table_examine.proofs.Examined.{Examined}
 use Rattle.call_changes.specs.Known.{Known, withEntries}
 use Rattle.call_changes.proofs.Written.{sound-again, shows}
-
-as-many : (es : List Entry) → length (entryTags es) ≡ length (entryKeys es)
-as-many es = length-map es (λ e. tagOf (e .measure)) ∙ sym (length-map es (λ e. e .key))
 
 -- What follows: the second word is the number of keys, so many begin the lists, and they are what a table may hold.
 pub record Facts (many : ℕ) (words keys tags : List ℕ) : Type 0 where
@@ -44,7 +40,7 @@ module _ (many : ℕ) (words keys tags : List ℕ) (known : Known many words key
         valid = sound-valid many words (known .sound) sized;
         inside = omega (arith, length-take (length (keysIn (contentsOf many words))) keys, ap length (known .listed));
         tags-inside =
-            omega (arith, length-take (length (keysIn (contentsOf many words))) tags, ap length (known .measured), as-many (contentsOf many words .entries));
+            omega (arith, length-take (length (keysIn (contentsOf many words))) tags, ap length (known .measured), tags-many (contentsOf many words .entries));
       }
 
 -- a table that was examined
@@ -78,13 +74,13 @@ known-again many words keys tags c some most valid written taken tagged =
 module _ (many : ℕ) (words : List ℕ) (made : List Entry) (valid : Valid many (withEntries many words made)) (keys tags : List ℕ) (n : ℕ)
     (keys-made : take n keys ≡ entryKeys made) (tags-made : take n tags ≡ entryTags made) where
   made-entries : entriesTagged (take n keys) (take n tags) ≡ made
-  made-entries = ap₂ entriesTagged keys-made tags-made ∙ tagged-back made (valid .measures-right)
+  made-entries = tagged-is made (valid .measures-right) keys-made tags-made
 
   pub made-valid : Valid many (withEntries many words (entriesTagged (take n keys) (take n tags)))
   made-valid = subst (λ (es : List Entry). Valid many (withEntries many words es)) (sym made-entries) valid
 
   pub made-beside : Beside (take n keys) (take n tags)
-  made-beside = subst₂ Beside (sym keys-made) (sym tags-made) (tags-beside made (valid .measures-right))
+  made-beside = beside-of made (valid .measures-right) keys-made tags-made
 
   pub made-written : (after : List ℕ) → after ≡ fresh many (withEntries many words (entriesTagged (take n keys) (take n tags)))
       → after ≡ fresh many (withEntries many words made)

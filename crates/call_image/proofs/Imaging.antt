@@ -1,7 +1,7 @@
 -- What the tests of a writing say of its reply and of the output after it. Assumes nothing.
 use mathlib.Core.Bool.{true, false, cond}
 use mathlib.Core.List.{List}
-use mathlib.Core.Path.{_≡_, sym, ap, ap₂, _∙_}
+use mathlib.Core.Path.{_≡_, sym, ap, _∙_}
 use Prim.Native.Nat.{ℕ, _<_, _≤_}
 use native.Mathlib.Omega.{arith}
 use lib.Dec.{eqb}
@@ -9,11 +9,11 @@ use lib.ListN.{length, getD}
 use borrow.Author.Tests.{le-leb, lt-leb, lt-ltb, le-ltb}
 use Rattle.lists.specs.Lists.{overwrite}
 use Rattle.table.specs.Contents.{Entry, keysIn}
-use Rattle.table.specs.Tags.{tagsIn, entriesTagged, tagged}
+use Rattle.table.specs.Tags.{tagsIn, tagged}
 use Rattle.table.specs.Layout.{mostSlots, tableWords, orderWord}
 use Rattle.table.specs.Table.{contentsOf}
 use Rattle.table.specs.Sound.{soundWith}
-use Rattle.table.proofs.Tagged.{tagged-back}
+use Rattle.table.proofs.Tagged.{tagged-is}
 use Rattle.table.proofs.Soundness.{sound-measures}
 use Rattle.table_limits.specs.Lengths.{slotsFor}
 use Rattle.image.specs.Image.{imageOf}
@@ -55,7 +55,7 @@ module _ (words output : List ℕ) where
       image-shown =
           ap imageOf (shown-is words many some most long)
           ∙ ap (λ (es : List Entry). imageOf (record { order = getD words orderWord 0; entries = es }))
-          (sym (ap₂ entriesTagged found beside ∙ tagged-back (contentsOf many words .entries) (sound-measures many words sound)))
+          (sym (tagged-is (contentsOf many words .entries) (sound-measures many words sound) found beside))
 
       pub refused-short : (n : ℕ) → n ≡ length (imageOf (tagged (getD words orderWord 0) keys tags)) → length output < n
           → (after : List ℕ) → after ≡ writtenTo output (imageOf (tagged (getD words orderWord 0) keys tags)) → Meets (Refused OutputTooShort) after

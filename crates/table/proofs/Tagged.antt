@@ -1,7 +1,7 @@
 -- Keys with tags beside them are entries, and entries such keys and tags. Assumes measures within the rules, where it says so.
 use mathlib.Core.Bool.{true}
 use mathlib.Core.List.{List, [], _∷_, map}
-use mathlib.Core.Path.{_≡_, refl, sym, ap, ap₂, _∙_}
+use mathlib.Core.Path.{_≡_, refl, sym, ap, ap₂, _∙_, subst₂}
 use Prim.Native.Nat.{ℕ, _<_}
 use native.Mathlib.Omega.{arith}
 use lib.ListN.{length, getD, length-map, List·getD-map}
@@ -34,10 +34,13 @@ found-tagged keys tags i rise h =
     ∙ List·getD-map measureAt tags i 0
 
 -- ---- entries are keys and tags
+pub tags-many : (es : List Entry) → length (entryTags es) ≡ length (entryKeys es)
+tags-many es = length-map es (λ e. tagOf (e .measure)) ∙ sym (length-map es (λ e. e .key))
+
 pub tags-beside : (es : List Entry) → All (λ e. rightMeasure e ≡ true) es → Beside (entryKeys es) (entryTags es)
 tags-beside es h =
     record {
-      as-many = length-map es (λ e. tagOf (e .measure)) ∙ sym (length-map es (λ e. e .key));
+      as-many = tags-many es;
       right = all-mapped (λ t. isTag t ≡ true) (λ e. tagOf (e .measure)) es (all-map (λ e. rightMeasure e ≡ true) (λ e. isTag (tagOf (e .measure)) ≡ true) (λ e. measure-tags (e .measure)) es h);
     }
 
@@ -46,3 +49,11 @@ tagged-back [] h = refl
 tagged-back (e ∷ es) h =
     let first : record { key = e .key; measure = measureAt (tagOf (e .measure)) } ≡ e = λ i. record { key = e .key; measure = measure-of-tag (e .measure) (h .0) i } in
     ap₂ (λ (f : Entry) (fs : List Entry). f ∷ fs) first (tagged-back es (h .1))
+
+-- and so of lists that are those of the entries
+module _ (es : List Entry) (h : All (λ e. rightMeasure e ≡ true) es) {keys tags : List ℕ} (e : keys ≡ entryKeys es) (f : tags ≡ entryTags es) where
+  pub beside-of : Beside keys tags
+  beside-of = subst₂ Beside (sym e) (sym f) (tags-beside es h)
+
+  pub tagged-is : entriesTagged keys tags ≡ es
+  tagged-is = ap₂ entriesTagged e f ∙ tagged-back es h

@@ -11,7 +11,7 @@ use Rattle.lists.proofs.Start.{starts-with, as-long}
 use Rattle.table.specs.Contents.{keysIn, Valid}
 use Rattle.table.specs.Tags.{tagsIn, tagged}
 use Rattle.table.specs.Layout.{mostSlots}
-use Rattle.table.proofs.Tagged.{tags-beside}
+use Rattle.table.proofs.Tagged.{tags-many}
 use Rattle.image.specs.Image.{readImage, isImage}
 use Rattle.image.specs.Layout.{IsByte}
 use Rattle.image.proofs.Judging.{is-image-valid}
@@ -69,7 +69,7 @@ inside p =
     )
 
 as-many : (p : tie.After-found) → length (tagsIn (readImage (bytes (read-at p)))) ≡ size p
-as-many p = tags-beside (readImage (bytes (read-at p)) .entries) (valid p .measures-right) .as-many ∙ sym (number p)
+as-many p = tags-many (readImage (bytes (read-at p)) .entries) ∙ sym (number p)
 
 tags-taken : (p : tie.After-found) → take (size p) (tags p) ≡ tagsIn (readImage (bytes (read-at p)))
 tags-taken p =

@@ -1,13 +1,13 @@
 -- `call_image::write_in` meets its contract. Assumes nothing.
 use mathlib.Core.List.{List}
-use mathlib.Core.Path.{sym, _∙_, subst₂}
+use mathlib.Core.Path.{sym, _∙_}
 use Prim.Native.Nat.{ℕ, _≤_}
 use native.Mathlib.Omega.{arith}
 use lib.ListN.{length, take}
 use lib.Seq.{length-take-le}
 use Rattle.table.specs.Tags.{Beside}
 use Rattle.table.specs.Table.{contentsOf}
-use Rattle.table.proofs.Tagged.{tags-beside}
+use Rattle.table.proofs.Tagged.{beside-of}
 use Rattle.table.proofs.Soundness.{sound-measures}
 use Rattle.table_examine.proofs.Verdicts.{told-false}
 use Rattle.table_examine.proofs.Examined.{Examined, examined, examined-writable}
@@ -50,7 +50,7 @@ beside p =
     let start = begun (judged-at p) in
     let many = start .args .many in
     let words = start .args .table .now in
-    subst₂ Beside (sym (found p .keys-there .taken)) (sym (found p .tags-there .taken)) (tags-beside (contentsOf many words .entries) (sound-measures many words (found p .sound)))
+    beside-of (contentsOf many words .entries) (sound-measures many words (found p .sound)) (found p .keys-there .taken) (found p .tags-there .taken)
 
 shared-slice-read-order : tie.Need-shared-slice-read-order
 shared-slice-read-order c = search needs
