@@ -17,12 +17,11 @@ use Rattle.lists.proofs.Membership.{all-of-members}
 use Rattle.lists.proofs.UpFrom.{upFrom-rising, upFrom-member, upFrom-within, mapped-upFrom-at, mapped-upFrom-all}
 use Rattle.priority.specs.Priority.{priorityOf}
 use Rattle.sorting.specs.ByWeight.{heavier, byWeight}
-use Rattle.measure.specs.Tag.{measureAt, isTag}
+use Rattle.measure.specs.Tag.{isTag}
 use Rattle.measure.proofs.Tags.{length-at, stored-at}
 use Rattle.table.specs.Layout.{mostSlots}
 use Rattle.table.specs.Contents.{measureIn}
 use Rattle.table.specs.Tags.{entriesTagged, Beside}
-use Rattle.table.proofs.Tagged.{found-tagged}
 use Rattle.treap.specs.Treap.{top, leftLink, rightLink}
 use Rattle.treap.specs.Levels.{rank, count, leader}
 use Rattle.treap.specs.Blocks.{rootRank}
@@ -34,7 +33,7 @@ use Rattle.image.proofs.Weights.{weigh, precedes-by-weight, agree-by-weight}
 use Rattle.image.proofs.ImageOrder.{blockLeader, before, sameBlock, blockLeader-is}
 use Rattle.treap_columns.specs.Positions.{positions, weightAt}
 use Rattle.table_encode.specs.Encode.{Columns, keyAt}
-use Rattle.table_encode.proofs.Renaming.{key-at-suc, key-at-zero, keys-of-positions, keys-rename}
+use Rattle.table_encode.proofs.Renaming.{key-at-suc, measure-at-suc, key-at-zero, keys-of-positions, keys-rename}
 use Rattle.table_encode.proofs.Fresh.{Right, linked, numbered}
 use Rattle.image_blocks.specs.Naming.{levelAt, leaderAt, blockWeight, blockWeights, sameWeight, Ranked}
 use Rattle.image_parts.specs.Parts.{nodeAt}
@@ -74,9 +73,6 @@ module _ (order : ℕ) (wide : 2 ≤ order) (keys : List ℕ) (rising : Rising k
       subst (λ (k : ℕ). member k keys ≡ true) (sym (key-at-suc keys i))
       (all-at (λ k. member k keys ≡ true) keys i 0 (all-of-members (λ k. member k keys ≡ true) keys (λ k m. m)) h)
 
-  measure-by-index : (tags : List ℕ) (i : ℕ) → i < n → measureIn (entriesTagged keys tags) (keyOf keys i) ≡ measureAt (getD tags i 0)
-  measure-by-index tags i h = ap (measureIn (entriesTagged keys tags)) (key-at-suc keys i) ∙ found-tagged keys tags i rising h
-
   pub keys-by-index : map (keyOf keys) (upFrom 0 n) ≡ keys
   keys-by-index = mapped-upFrom-all (keyOf keys) keys 0 0 (λ i h. ap (keyOf keys) (zero-add i) ∙ key-at-suc keys i)
 
@@ -95,7 +91,7 @@ module _ (order : ℕ) (wide : 2 ≤ order) (keys : List ℕ) (rising : Rising k
         let tag = getD tags i 0 in
         let many = beside .as-many in
         rw (
-          measure-by-index tags i h,
+          measure-at-suc keys tags rising i h,
           stored-at tag (all-at (λ t. isTag t ≡ true) tags i 0 (beside .right) (omega arith)),
           length-at tag,
           linked order wide keys rising some c right leftLink (c .left) (renamed-left (keyAt keys) priorityOf q is rename rise) (right .lefts) i h,

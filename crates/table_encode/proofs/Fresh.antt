@@ -15,7 +15,7 @@ use Rattle.lists.proofs.FlatMap.{flatMap-same, flatMap-mapped}
 use Rattle.lists.proofs.Sorting.{all-permuted, sortBy-permutes}
 use Rattle.lists.proofs.UpFrom.{upFrom-member, upFrom-rising, upFrom-within}
 use Rattle.measure.specs.Measure.{Measure, storedCorrection}
-use Rattle.measure.specs.Tag.{measureAt, isTag}
+use Rattle.measure.specs.Tag.{isTag}
 use Rattle.measure.proofs.Tags.{length-at, stored-at}
 use Rattle.priority.specs.Priority.{priorityOf, homeOf}
 use Rattle.treap.specs.Treap.{top, outranks, leftLink, rightLink}
@@ -26,12 +26,12 @@ use Rattle.table_slots.proofs.RelabelSlots.{renamed-slots}
 use Rattle.treap_columns.specs.Positions.{positions, weightAt}
 use Rattle.treap_columns.specs.Columns.{leftColumn, rightColumn, rankColumn, countColumn, leaderColumn}
 use Rattle.treap_columns.proofs.Filled.{column-at}
-use Rattle.table.specs.Contents.{Contents, measureIn}
-use Rattle.table.specs.Tags.{entriesTagged, tagged, Beside}
+use Rattle.table.specs.Contents.{Contents}
+use Rattle.table.specs.Tags.{tagged, Beside}
 use Rattle.table.specs.Table.{homeIn, header, slotOf, fresh}
-use Rattle.table.proofs.Tagged.{tagged-keys, found-tagged}
+use Rattle.table.proofs.Tagged.{tagged-keys}
 use Rattle.table_encode.specs.Encode.{keyAt, Columns, slotAt, wordsOf}
-use Rattle.table_encode.proofs.Renaming.{maps-agree, key-at-zero, keys-of-positions, keys-rename, keys-apart, place-home, all-placed}
+use Rattle.table_encode.proofs.Renaming.{maps-agree, measure-at-suc, key-at-zero, keys-of-positions, keys-rename, keys-apart, place-home, all-placed}
 
 -- Columns that begin with those of the definitions, over the priorities of the keys.
 pub record Right (order : ℕ) (keys : List ℕ) (c : Columns) : Type 0 where
@@ -81,13 +81,6 @@ module _ (order : ℕ) (wide : 2 ≤ order) (keys : List ℕ) (rising : Rising k
     numbered g column e t i h =
         of-position (g priorityOf keys) (g q is) (over-keys (g priorityOf) (map (g q is) is) e) i h ∙ sym (column-at (g q is) n column t i h)
 
-    -- the measure of the key is that of the tag beside it
-    measured : (tags : List ℕ) (i : ℕ) → i < n → measureIn (entriesTagged keys tags) (f (suc i)) ≡ measureAt (getD tags i 0)
-    unfolding keyAt
-    measured tags i h =
-        let apart : suc i ≢ 0 = λ e. omega arith in
-        rw (ne-eqb (suc i) 0 apart) (found-tagged keys tags i rising h)
-
     slot-right : (tags : List ℕ) → Beside keys tags → (i : ℕ) → i ≤ n → slotOf (tagged order keys tags) (f i) ≡ slotAt keys tags c i
     unfolding slotOf slotAt
     slot-right tags beside zero h = rw (key-at-zero keys)
@@ -104,8 +97,8 @@ module _ (order : ℕ) (wide : 2 ≤ order) (keys : List ℕ) (rising : Rising k
           linked (leader order) (c .leader) (renamed-leader f priorityOf q is rename rise order wide) (right .leaders) i h,
           numbered (rank order) (c .rank) (renamed-ranks f priorityOf q is rename rise order wide) (right .ranks) i h,
           numbered (count order) (c .count) (renamed-counts f priorityOf q is rename rise order wide) (right .counts) i h,
-          ap (λ (m : Measure). m .length) (measured tags i h) ∙ length-at tag,
-          ap storedCorrection (measured tags i h) ∙ stored-at tag tag-right,
+          ap (λ (m : Measure). m .length) (measure-at-suc keys tags rising i h) ∙ length-at tag,
+          ap storedCorrection (measure-at-suc keys tags rising i h) ∙ stored-at tag tag-right,
         )
 
     -- ---- the slots

@@ -12,9 +12,13 @@ use Rattle.lists.proofs.Keep.{all-map, all-at, all-set}
 use Rattle.lists.proofs.Membership.{all-member}
 use Rattle.lists.proofs.Ordered.{pairwise-at}
 use Rattle.lists.proofs.UpFrom.{upFrom-within, mapped-at, mapped-upFrom-all}
+use Rattle.measure.specs.Tag.{measureAt}
 use Rattle.treap.specs.Slots.{firstEmpty, placeAll}
 use Rattle.treap_structure.proofs.Relabel.{Renames}
 use Rattle.treap_columns.specs.Positions.{positions, weightAt}
+use Rattle.table.specs.Contents.{measureIn}
+use Rattle.table.specs.Tags.{entriesTagged}
+use Rattle.table.proofs.Tagged.{found-tagged}
 use Rattle.table_encode.specs.Encode.{keyAt}
 
 -- ---- lists
@@ -27,6 +31,10 @@ maps-agree g h (x ∷ xs) e = (head-eq-of-cons-eq e, maps-agree g h xs (tail-eq-
 pub key-at-suc : (keys : List ℕ) (i : ℕ) → keyAt keys (suc i) ≡ getD keys i 0
 unfolding keyAt
 key-at-suc keys i = rw (ne-eqb (suc i) 0 (λ e. omega arith))
+
+-- the measure of the key is that of the tag beside it
+pub measure-at-suc : (keys tags : List ℕ) → Rising keys → (i : ℕ) → i < length keys → measureIn (entriesTagged keys tags) (keyAt keys (suc i)) ≡ measureAt (getD tags i 0)
+measure-at-suc keys tags rising i h = ap (measureIn (entriesTagged keys tags)) (key-at-suc keys i) ∙ found-tagged keys tags i rising h
 
 pub key-at-zero : (keys : List ℕ) → keyAt keys 0 ≡ 0
 unfolding keyAt
