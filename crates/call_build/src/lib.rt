@@ -3,8 +3,7 @@ ghost use mathlib.Core.Path.{_≡_};
 ghost use mathlib.Core.Bool.{true};
 ghost use Prim.Native.Nat.{_<_, _≤_};
 ghost use lib.ListN.{length, replicate};
-ghost use Rattle.lists.specs.Lists.{every};
-ghost use Rattle.measure.specs.Measure.{isMeasure, measuresBeside, areMeasured};
+ghost use Rattle.measure.specs.Measure.{measuresBeside, areMeasured};
 ghost use Rattle.priority.specs.Priority.{HoldsConstants};
 ghost use Rattle.table.specs.Layout.{mostSlots, tableWords};
 ghost use Rattle.table.specs.Contents.{entriesWith};
@@ -68,7 +67,7 @@ fn write_within(
     constants: &[u64; CONSTANT_COUNT],
 )
     requires { ⌜ Keys order (now keys) ⌝ }
-    requires { ⌜ (length (now lengths) ≡ length (now keys)) × (length (now corrections) ≡ length (now lengths)) × (every isMeasure (measuresBeside (now lengths) (now corrections)) ≡ true) ⌝ }
+    requires { ⌜ areMeasured (length (now keys)) (now lengths) (now corrections) ≡ true ⌝ }
     requires { ⌜ (0 < many) × (length (now keys) ≤ many) × (length (now table) ≡ tableWords many) × (many ≤ mostSlots) × (many ≤ length (now tags)) × HoldsConstants (now constants) ⌝ }
     ensures { λ _. ⌜ now (table .exit) ≡ fresh many (record { order = order; entries = entriesWith (now (keys .entry)) (measuresBeside (now (lengths .entry)) (now (corrections .entry))) }) ⌝ }
 {
@@ -87,7 +86,7 @@ fn write(
     table: &mut [u64],
 )
     requires { ⌜ Keys order (now keys) ⌝ }
-    requires { ⌜ (length (now lengths) ≡ length (now keys)) × (length (now corrections) ≡ length (now lengths)) × (every isMeasure (measuresBeside (now lengths) (now corrections)) ≡ true) ⌝ }
+    requires { ⌜ areMeasured (length (now keys)) (now lengths) (now corrections) ≡ true ⌝ }
     requires { ⌜ (0 < many) × (length (now keys) ≤ many) × (length (now table) ≡ tableWords many) × (many ≤ mostSlots) ⌝ }
     ensures { λ _. ⌜ now (table .exit) ≡ fresh many (record { order = order; entries = entriesWith (now (keys .entry)) (measuresBeside (now (lengths .entry)) (now (corrections .entry))) }) ⌝ }
 {

@@ -8,7 +8,6 @@ use lib.IntN.{ℤ}
 use lib.ListN.{length}
 use borrow.Author.Tests.{not-true, not-false}
 use Rattle.measure.specs.Measure.{areMeasured}
-use Rattle.measure.proofs.Beside.{measured-says}
 use Rattle.table.specs.Layout.{mostSlots}
 use Rattle.table.specs.Contents.{newOrder, risingKeys}
 use Rattle.table_limits.specs.Lengths.{slotsFor}
@@ -122,7 +121,7 @@ write-requires c κs =
     let most : many p ≤ mostSlots = omega (arith, here p, right .within) in (
       can-be-written (words p) (order p) (list p) (lengths p) (corrections p) (many p) (here p) (p .if1 .left) (right-order (to-order r)) (right-list (to-list r)) most few,
       (
-        measured-says (length (list p)) (lengths p) (corrections p) (right-measures (c .before .before)),
+        right-measures (c .before .before),
         (omega (arith, here p, right .some), few, omega (arith, here p, right .long), most),
       ),
     )
