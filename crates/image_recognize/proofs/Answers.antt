@@ -1,7 +1,7 @@
 -- What the answer of recognizing says. Assumes nothing.
 use mathlib.Core.Bool.{Bool, true, false, cond}
 use mathlib.Core.List.{List}
-use mathlib.Core.Path.{_≡_, refl, sym, ap, _∙_, subst, subst₂}
+use mathlib.Core.Path.{_≡_, refl, sym, ap, _∙_, subst}
 use Prim.Native.Nat.{ℕ, _≤_}
 use native.Mathlib.Omega.{arith}
 use lib.ListN.{length}
@@ -9,7 +9,7 @@ use Rattle.treap.specs.Image.{orderBytes}
 use Rattle.table.specs.Layout.{mostSlots}
 use Rattle.table.specs.Contents.{Valid, keysIn}
 use Rattle.table.specs.Tags.{tagsIn, Beside}
-use Rattle.table.proofs.Tagged.{tags-beside}
+use Rattle.table.proofs.Tagged.{beside-of}
 use Rattle.table_prepare.specs.Prepared.{Keys}
 use Rattle.table_prepare.proofs.Writable.{valid-keys}
 use Rattle.image.specs.Layout.{headerBytes, orderAt}
@@ -53,7 +53,7 @@ module _ (bytes : List ℕ) where
       subst (Keys order) (sym f) (subst (λ (α : ℕ). Keys α (keysIn (readImage bytes))) (sym e) (valid-keys mostSlots (readImage bytes) (omega arith) valid))
 
   pub image-beside : Valid mostSlots (readImage bytes) → (keys tags : List ℕ) → keys ≡ keysIn (readImage bytes) → tags ≡ tagsIn (readImage bytes) → Beside keys tags
-  image-beside valid keys tags e f = subst₂ Beside (sym e) (sym f) (tags-beside (readImage bytes .entries) (valid .measures-right))
+  image-beside valid keys tags e f = beside-of (readImage bytes .entries) (valid .measures-right) e f
 
   pub image-header : Valid mostSlots (readImage bytes) → isImage bytes ≡ true → headerBytes ≤ length bytes
   image-header valid one = omega (arith, ap length (is-image-exactly bytes one), image-length (readImage bytes) valid)

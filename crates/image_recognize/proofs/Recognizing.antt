@@ -15,13 +15,12 @@ use Rattle.lists.proofs.Keep.{every-when}
 use Rattle.lists.proofs.Sorting.{all-permuted, sortBy-permutes}
 use Rattle.lists.proofs.Sorted.{sorted-length}
 use Rattle.lists.proofs.Overwrite.{overwrite-start}
-use Rattle.measure.specs.Tag.{tagOf}
 use Rattle.treap.specs.Image.{orderBytes}
 use Rattle.table.specs.Layout.{mostSlots, leastOrder, greatestOrder}
 use Rattle.table.specs.Contents.{Entry, tableOrder, risingKeys, entryKeys, keysIn, keyBelow, rightMeasure}
 use Rattle.table.specs.Tags.{entryTags, tagsIn, tagged}
 use Rattle.table.proofs.Entries.{sorted-keys}
-use Rattle.table.proofs.Tagged.{tagged-back}
+use Rattle.table.proofs.Tagged.{tags-many, tagged-back}
 use Rattle.table_decode.specs.Decode.{TagsSorted}
 use Rattle.table_decode.proofs.RisingKeys.{rising-says}
 use Rattle.table_decode.proofs.SortedInPlace as Sorted
@@ -173,7 +172,7 @@ shown-size bytes n h =
     ap length (keys-are bytes) ∙ sorted-length (entryKeys (entriesOf bytes)) ∙ length-map (entriesOf bytes) (λ e. e .key) ∙ sym h
 
 pub tags-size : (bytes : List ℕ) → length (tagsIn (readImage bytes)) ≡ length (keysIn (readImage bytes))
-tags-size bytes = length-map (readImage bytes .entries) (λ e. tagOf (e .measure)) ∙ sym (length-map (readImage bytes .entries) (λ e. e .key))
+tags-size bytes = tags-many (readImage bytes .entries)
 
 -- what was collected, once it is sorted
 module _ (bytes : List ℕ) {lent keys space tags : List ℕ} {n : ℕ} (had : Sorted.Collected (entriesOf bytes) lent keys space tags n) where

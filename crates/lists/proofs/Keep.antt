@@ -150,6 +150,14 @@ pub map-same : {A B : Type 0} (f g : A → B) (xs : List A) → All (λ x. f x �
 map-same f g [] h = refl
 map-same {A} {B} f g (x ∷ xs) h = ap₂ (λ (y : B) (ys : List B). y ∷ ys) (h .0) (map-same f g xs (h .1))
 
+-- what is made of those whose results pass a test
+pub map-keep : {A B : Type 0} (g : A → B) (f : B → Bool) (xs : List A) → map g (keep (λ x. f (g x)) xs) ≡ keep f (map g xs)
+map-keep g f [] = refl
+map-keep {A} {B} g f (x ∷ xs) =
+    by-test (f (g x))
+    (λ t. rw t (ap (λ (ys : List B). g x ∷ ys) (map-keep g f xs)))
+    (λ t. rw t (map-keep g f xs))
+
 pub all-mapped : {A B : Type 0} (P : B → Type 0) (g : A → B) (xs : List A) → All (λ x. P (g x)) xs → All P (map g xs)
 all-mapped P g [] h = tt
 all-mapped P g (x ∷ xs) h = (h .0, all-mapped P g xs (h .1))

@@ -1,15 +1,15 @@
 -- What the words of any table show, and that `soundWith` decides soundness. Assumes a number of slots that a table may have, and
 -- words that are 64-bit numbers, where it says so.
 use mathlib.Core.Bool.{true, _&&_}
-use mathlib.Core.List.{List, [], _∷_, map}
+use mathlib.Core.List.{List, map, map-map}
 use mathlib.Core.Path.{_≡_, refl, sym, ap, _∙_, subst}
 use Prim.Native.Nat.{ℕ, _+_, _^_, _≤_, _<_}
 use native.Mathlib.Omega.{arith}
-use lib.Dec.{eqb, ltb}
+use lib.Dec.{ltb}
 use lib.ListN.{length, getD, length-map}
 use Rattle.lists.specs.Lists.{nonzero, keep, every, All, sortBy, same, upFrom, risesB, Rising}
-use Rattle.lists.proofs.Tests.{by-test, nonzero-says, and-left, and-right, and-both}
-use Rattle.lists.proofs.Keep.{all-map, all-both, all-always, all-mapped, all-keep, kept-pass, length-keep, every-says, every-when}
+use Rattle.lists.proofs.Tests.{nonzero-says, and-left, and-right, and-both}
+use Rattle.lists.proofs.Keep.{all-map, all-both, all-always, all-mapped, all-keep, kept-pass, length-keep, map-keep, every-says, every-when}
 use Rattle.lists.proofs.Membership.{same-says, same-when}
 use Rattle.lists.proofs.Rising.{rises-says, rises-when}
 use Rattle.lists.proofs.Sorted.{sorted-all, sorted-length}
@@ -53,17 +53,10 @@ module _ (many : ℕ) (words : List ℕ) where
       (all-keep (λ k. k < 2 ^ 64) nonzero (slotKeys many words) (slotKeys-sized sized))
 
   -- the entries held, and their keys
-  entries-keys : (slots : List ℕ) → entryKeys (keep (λ e. nonzero (e .key)) (map (entryIn words) slots)) ≡ keep nonzero (map (keyIn words) slots)
-  unfolding entryIn
-  entries-keys [] = refl
-  entries-keys (s ∷ slots) =
-      by-test (eqb (keyIn words s) 0)
-      (λ t. rw t (entries-keys slots))
-      (λ t. rw t (ap (λ (ks : List ℕ). keyIn words s ∷ ks) (entries-keys slots)))
-
   pub held-entry-keys : entryKeys (heldEntries many words) ≡ heldKeys many words
-  unfolding heldEntries heldKeys slotKeys
-  held-entry-keys = entries-keys (upFrom 0 many)
+  unfolding heldEntries heldKeys slotKeys entryIn
+  held-entry-keys =
+      map-keep (λ e. e .key) nonzero (map (entryIn words) (upFrom 0 many)) ∙ ap (keep nonzero) (map-map (λ e. e .key) (entryIn words) (upFrom 0 many))
 
   pub shown-held : keysIn (contentsOf many words) ≡ sortBy ltb (heldKeys many words)
   unfolding contentsOf

@@ -5,18 +5,18 @@ use mathlib.Core.List.{List}
 use mathlib.Core.Path.{_≡_, sym, ap, _∙_, subst}
 use Prim.Native.Nat.{ℕ, _≤_}
 use native.Mathlib.Omega.{arith}
-use lib.ListN.{length, getD, take, length-map}
+use lib.ListN.{length, getD, take}
 use Rattle.lists.specs.Lists.{overwrite, risesB, lies}
 use Rattle.lists.proofs.Tests.{and-left, and-right}
 use Rattle.lists.proofs.Overwrite.{overwrite-length}
 use Rattle.lists.proofs.Start.{starts-with}
-use Rattle.measure.specs.Tag.{tagOf}
 use Rattle.table.specs.Layout.{mostSlots, leastOrder, greatestOrder, orderWord}
 use Rattle.table.specs.Contents.{tableOrder, keysIn}
 use Rattle.table.specs.Tags.{tagsIn}
 use Rattle.table.specs.Table.{contentsOf}
 use Rattle.table.specs.Sound.{soundWith}
 use Rattle.table.proofs.Soundness.{shown-fit}
+use Rattle.table.proofs.Tagged.{tags-many}
 use Rattle.table_examine.specs.Examine.{verdictOf}
 use Rattle.table_examine.specs.declared.Verdict.{Verdict}
 use Rattle.table_examine.specs.declared.Verdict.the-variants.{Sound}
@@ -51,7 +51,7 @@ examined many words lent keys space tags n v is says written tagged room more =
     let sound = told-true many words n told in
     let size = told-size many words n told in
     let few = shown-fit many words in
-    let as-many : length (tagsIn c) ≡ length (keysIn c) = length-map (c .entries) (λ e. tagOf (e .measure)) ∙ sym (length-map (c .entries) (λ e. e .key)) in
+    let as-many = tags-many (c .entries) in
     record {
       sound = sound;
       size = size;

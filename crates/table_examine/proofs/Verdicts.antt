@@ -1,7 +1,7 @@
 -- What the tests of examining say of the verdict. Assumes nothing.
 use mathlib.Core.Bool.{Bool, true, false, cond}
 use mathlib.Core.List.{List}
-use mathlib.Core.Path.{_≡_, refl, sym, ap, ap₂, _∙_, subst}
+use mathlib.Core.Path.{_≡_, refl, sym, ap, _∙_, subst}
 use Prim.Native.Nat.{ℕ, _≤_}
 use native.Mathlib.Omega.{arith}
 use lib.ListN.{length, getD, take}
@@ -13,11 +13,11 @@ use Rattle.lists.proofs.Tests.{same-test}
 use Rattle.lists.proofs.Membership.{same-when}
 use Rattle.table.specs.Layout.{mostSlots, leastOrder, greatestOrder, orderWord}
 use Rattle.table.specs.Contents.{Entry, Contents, keysIn, tableOrder, rightMeasure}
-use Rattle.table.specs.Tags.{tagsIn, entriesTagged, tagged}
+use Rattle.table.specs.Tags.{tagsIn, tagged}
 use Rattle.table.specs.Table.{fresh, contentsOf}
 use Rattle.table.specs.Sound.{soundWith}
 use Rattle.table.proofs.Soundness.{shown-fit, shown-nonzero, sound-exactly}
-use Rattle.table.proofs.Tagged.{tagged-back}
+use Rattle.table.proofs.Tagged.{tagged-is}
 use Rattle.table_decode.specs.Decode.{contentsRead}
 use Rattle.table_prepare.specs.Prepared.{Keys}
 use Rattle.table_prepare.proofs.Writable.{writable}
@@ -109,4 +109,4 @@ module _ (many : ℕ) (words : List ℕ) where
   unfolding contentsRead
   compared keys tags e f =
       ap (λ (es : List Entry). same words (fresh many (record { order = getD words orderWord 0; entries = es })))
-      (ap₂ entriesTagged (e ∙ sym (keys-shown many words)) f ∙ tagged-back (contentsRead many words .entries) (read-right many words))
+      (tagged-is (contentsRead many words .entries) (read-right many words) (e ∙ sym (keys-shown many words)) f)

@@ -1,7 +1,7 @@
 -- `image_recognize::recognize_within` meets its contract. Assumes nothing.
 use mathlib.Core.Bool.{true}
 use mathlib.Core.List.{List, _++_}
-use mathlib.Core.Path.{_≡_, sym, ap, ap₂, _∙_, subst, subst₂}
+use mathlib.Core.Path.{_≡_, sym, ap, ap₂, _∙_, subst}
 use Prim.Native.Nat.{ℕ, _≤_}
 use native.Mathlib.Omega.{arith}
 use lib.ListN.{length, take, drop, length-append}
@@ -12,8 +12,8 @@ use Rattle.lists.proofs.Keep.{all-of-indices}
 use Rattle.lists.proofs.Start.{starts-with, as-long}
 use Rattle.table.specs.Layout.{mostSlots, leastOrder, greatestOrder}
 use Rattle.table.specs.Contents.{risingKeys, keysIn, rightMeasure}
-use Rattle.table.specs.Tags.{tagsIn, tagged, Beside}
-use Rattle.table.proofs.Tagged.{tags-beside}
+use Rattle.table.specs.Tags.{tagsIn, tagged}
+use Rattle.table.proofs.Tagged.{beside-of}
 use Rattle.table_decode.proofs.SortedInPlace.{Collected}
 use Rattle.table_prepare.specs.Prepared.{Keys}
 use Rattle.image_parts.specs.Written.{writtenTo}
@@ -349,7 +349,7 @@ write-requires c κs =
     let es = readImage (bytes (read-at (at q))) .entries in (
       subst (Keys (ordered-at q .before .before .get .result)) (sym (taken q))
           (subst (λ (order : ℕ). Keys order (shown (at q))) (sym (ordered-at q .before .before .get .ensures)) (keys-right p)),
-      subst₂ Beside (sym (taken q)) (sym (tags-taken p)) (tags-beside es (right (at q))),
+      beside-of es (right (at q)) (taken q) (tags-taken p),
       begun (read-at (at q)) .pre .0 .3,
     )
 

@@ -1,7 +1,7 @@
 -- `table_examine::examine_within` meets its contract. Assumes nothing.
 use mathlib.Core.Bool.{true, false}
 use mathlib.Core.List.{List}
-use mathlib.Core.Path.{_≡_, sym, ap, _∙_, subst, subst₂}
+use mathlib.Core.Path.{_≡_, sym, ap, _∙_, subst}
 use Prim.Native.Nat.{ℕ, _≤_}
 use native.Mathlib.Omega.{arith}
 use lib.ListN.{length, getD, take}
@@ -16,7 +16,7 @@ use Rattle.table.specs.Tags.{entryTags, tagsIn, tagged, Beside}
 use Rattle.table.specs.Table.{fresh, contentsOf}
 use Rattle.table.specs.Sound.{soundWith}
 use Rattle.table.proofs.Soundness.{shown-fit}
-use Rattle.table.proofs.Tagged.{tags-beside}
+use Rattle.table.proofs.Tagged.{tags-many, beside-of}
 use Rattle.table_prepare.specs.Prepared.{Keys}
 use Rattle.table_prepare.proofs.Preparing.{room}
 use Rattle.table_encode.specs.Encode.{Columns, wordsOf}
@@ -78,7 +78,7 @@ right-in p = read-right (slots-in p) (words-in p)
 
 tags-long : (p : tie.After-read-keys) → length (entryTags (entries-in p)) ≡ p .read-keys .result
 tags-long p =
-    tags-beside (entries-in p) (right-in p) .as-many
+    tags-many (entries-in p)
     ∙ ap length (keys-shown (slots-in p) (words-in p))
     ∙ sym (p .read-keys .ensures .0)
 
@@ -95,7 +95,7 @@ beside : (q : tie.Else2) →
     Beside (take (p .read-keys .result) (list-in p)) (take (p .read-keys .result) (tags-in p))
 beside q =
     let p = rises-tested q in
-    subst₂ Beside (keys-shown (slots-in p) (words-in p) ∙ sym (read p)) (sym (tags-read q)) (tags-beside (entries-in p) (right-in p))
+    beside-of (entries-in p) (right-in p) (read p ∙ sym (keys-shown (slots-in p) (words-in p))) (tags-read q)
 
 comparable : (q : tie.Else2) → Keys (getD (words-in (rises-tested q)) orderWord 0) (take (rises-tested q .read-keys .result) (list-in (rises-tested q)))
 comparable q =
