@@ -18,8 +18,8 @@ use Rattle.table.specs.Table.{fresh, contentsOf}
 use Rattle.table.specs.Sound.{soundWith}
 use Rattle.table_limits.specs.Lengths.{slotsFor}
 use Rattle.call_sets.specs.Sets.{without}
-use Rattle.call_sets.specs.Places.{placeOf}
-use Rattle.call_sets.proofs.Placing.{place-below, placed-without, removed-length}
+use Rattle.call_sets.specs.Indices.{indexOf}
+use Rattle.call_sets.proofs.Placing.{index-below, placed-without, removed-length}
 use Rattle.call_replies.specs.Replies.{deletedOf}
 use Rattle.call_replies.specs.declared.Refusal.the-variants.{WrongLength, ZeroKey, NotSound, KeyAbsent}
 use Rattle.call_replies.specs.declared.Deleted.{Deleted}
@@ -112,7 +112,7 @@ module _ {many : ℕ} {words keys tags : List ℕ} (told : Facts many words keys
     key-there = ap (member key) (told .taken) ∙ held
 
     pub some-left : 0 < count
-    some-left = omega (arith, told .size, place-below key held-keys (told .valid .keys-rise) held)
+    some-left = omega (arith, told .size, index-below key held-keys (told .valid .keys-rise) held)
 
     left-right : Valid many (withEntries many words made)
     left-right = without-valid key many (contentsOf many words) (told .valid)
@@ -120,7 +120,7 @@ module _ {many : ℕ} {words keys tags : List ℕ} (told : Facts many words keys
     left-size : count - 1 ≡ length made
     left-size =
         let es = contentsOf many words .entries in
-        let fewer = removed-length (placeOf key held-keys) es (omega (arith, place-below key held-keys (told .valid .keys-rise) held, length-map es (λ e. e .key))) in
+        let fewer = removed-length (indexOf key held-keys) es (omega (arith, index-below key held-keys (told .valid .keys-rise) held, length-map es (λ e. e .key))) in
         omega (arith, told .size, length-map es (λ e. e .key), fewer, ap length (placed-without key es (told .valid .keys-rise) held))
 
     module _ (keys′ tags′ : List ℕ) (out : Removed told key keys′ tags′) where

@@ -8,7 +8,7 @@ use lib.Seq.{slice, slice-empty, slice-cons, length-take-le, length-slice, take-
 use Rattle.lists.specs.Lists.{overwrite}
 use Rattle.lists.proofs.Overwrite.{overwrite-none}
 use Rattle.lists.proofs.Parts.{slice-more, overwrite-more}
-use Rattle.call_sets.specs.Places.{putAt, removeAt}
+use Rattle.call_sets.specs.Indices.{putAt, removeAt}
 
 -- ---- overwriting from an index on
 -- the element before what was overwritten

@@ -1,4 +1,4 @@
--- A set of keys with a key more or a key less; places in lists; the set that a load makes.
+-- A set of keys with a key more or a key less; indices in lists; the set that a load makes.
 pub mod Sets
-pub mod Places
+pub mod Indices
 pub mod Load

@@ -3,7 +3,7 @@ pub mod Refused
 pub mod Answering
 pub mod Asking
 pub mod Entering
-pub mod Entries
+pub mod BookRules
 pub mod Running
 pub mod Loads
 pub mod Agreeing

@@ -26,7 +26,7 @@ use Rattle.call_batch.specs.Batch.{keysOf}
 use Rattle.call_batch.specs.declared.Question.{Question}
 use Rattle.history.specs.Call.{Call, setUp, build, reading, insert, delete, lookup, range, writing, step, load, batch}
 
--- ---- the entries
+-- ---- what is noted
 -- "Set-up ..: the given order, no keys."
 abbrev pub blank : ℕ → Contents
 blank order = record { order = order; entries = [] }

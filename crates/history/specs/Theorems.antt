@@ -151,8 +151,8 @@ abbrev pub WritingAccepted : Type 0
 WritingAccepted =
     (words lent : List ℕ) (sound : Sound words) → ((writeRefusal words lent ≡ 0) ↔ (length (imageOf (sound .contents)) ≤ length lent))
 
--- The book's entries are what the documents call them.
-pub record Entries : Type 0 where
+-- The book's rules are what the documents call them.
+pub record BookRules : Type 0 where
   -- "the listed keys", and where the list rises and neither a length nor a correction is "missing or left over", each with those beside it
   pub lists : (order : ℕ) (list lengths : List ℕ) (corrections : List ℤ) → keysIn (listed order list lengths corrections) ≡ list
   pub lists-measures : (order : ℕ) (list lengths : List ℕ) (corrections : List ℤ) → Rising list → length lengths ≡ length list

@@ -4,24 +4,24 @@ use Prim.Native.Nat.{ℕ}
 use native.Mathlib.Omega.{arith}
 use lib.ListN.{take, length-take}
 use Rattle.lists.specs.Lists.{overwrite}
-use Rattle.call_sets.specs.Places.{removeAt}
-use Rattle.call_sets.proofs.Placing.{place-below}
+use Rattle.call_sets.specs.Indices.{removeAt}
+use Rattle.call_sets.proofs.Placing.{index-below}
 use borrow.Author.Needs.{needs}
 use Rattle.call_sets.proofs.take_out.Statement.{statement}
 use Rattle.call_sets.proofs.take_out.Tie as tie
 
-place-of-requires : tie.Need-place-of-requires
-place-of-requires c κs = search needs
+index-of-requires : tie.Need-index-of-requires
+index-of-requires c κs = search needs
 
 remove-at-requires : tie.Need-remove-at-requires
 remove-at-requires c κs =
     let start = c .before .before .before .before .before in
-    (start .pre .0, omega (arith, c .before .place-of .ensures, place-below (start .args .key) (take (start .args .n) (start .args .keys .now)) (start .pre .2) (start .pre .3), length-take (start .args .n) (start .args .keys .now)))
+    (start .pre .0, omega (arith, c .before .index-of .ensures, index-below (start .args .key) (take (start .args .n) (start .args .keys .now)) (start .pre .2) (start .pre .3), length-take (start .args .n) (start .args .keys .now)))
 
 remove-at-requires-2 : tie.Need-remove-at-requires-2
 remove-at-requires-2 c κs =
     let start = c .before .before .before .before .before .before .before .before .before in
-    (start .pre .1, omega (arith, c .before .before .before .before .before .place-of .ensures, place-below (start .args .key) (take (start .args .n) (start .args .keys .now)) (start .pre .2) (start .pre .3), length-take (start .args .n) (start .args .keys .now)))
+    (start .pre .1, omega (arith, c .before .before .before .before .before .index-of .ensures, index-below (start .args .key) (take (start .args .n) (start .args .keys .now)) (start .pre .2) (start .pre .3), length-take (start .args .n) (start .args .keys .now)))
 
 same-length : tie.Need-same-length
 same-length c = search needs
@@ -32,7 +32,7 @@ same-length-2 c = search needs
 returns : tie.Need-returns
 returns c =
     let start = c .before .before .before .before .before .before .before .before .before .before .before .before in
-    let place = c .before .before .before .before .before .before .before .before .place-of .ensures in (
+    let place = c .before .before .before .before .before .before .before .before .index-of .ensures in (
       c .before .before .before .before .before .before .remove-at .ensures ∙ ap (λ (at : ℕ). overwrite (start .args .keys .now) 0 (removeAt at (take (start .args .n) (start .args .keys .now)))) place,
       c .before .before .remove-at2 .ensures ∙ ap (λ (at : ℕ). overwrite (start .args .tags .now) 0 (removeAt at (take (start .args .n) (start .args .tags .now)))) place,
     )
@@ -41,7 +41,7 @@ pub take-out-spec : {M : Type 1} → statement M
 take-out-spec =
     tie.close
     (tie.spec
-    place-of-requires
+    index-of-requires
     remove-at-requires
     remove-at-requires-2
     same-length

@@ -1,12 +1,12 @@
--- `call_sets::place_of` meets its contract. The loop's invariant: the keys before its index are below the key. Assumes nothing.
+-- `call_sets::index_of` meets its contract. The loop's invariant: the keys before its index are below the key. Assumes nothing.
 use Prim.Native.Nat.{_-_}
 use native.Mathlib.Omega.{arith}
 use lib.ListN.{getD}
 use borrow.Author.Tests.{ltb-true, ltb-false}
 use Rattle.call_sets.proofs.Placing.{Passed, passed-none, passed-more, passed-all}
 use borrow.Author.Needs.{needs}
-use Rattle.call_sets.proofs.place_of.Statement.{statement}
-use Rattle.call_sets.proofs.place_of.Tie as tie
+use Rattle.call_sets.proofs.index_of.Statement.{statement}
+use Rattle.call_sets.proofs.index_of.Tie as tie
 
 abbrev Inv-loop : tie.InvT-loop
 Inv-loop keys n key at₀ at = Passed keys n key at
@@ -50,8 +50,8 @@ returns-2 c =
     passed-all (start .args .keys .now) (start .args .n) (start .args .key) (loop .at) (start .pre .0) (loop .inv) (start .pre .1)
     (λ h. absurd (omega (arith, c .loop-test .left)))
 
-pub place-of-spec : {M : Type 1} → statement M
-place-of-spec =
+pub index-of-spec : {M : Type 1} → statement M
+index-of-spec =
     tie.close
     (tie.spec
     Inv-loop

@@ -1,4 +1,4 @@
--- The entries of the book have the members and the measures that the documents name, and reading an image takes up what it was written
+-- What is noted in the book has the members and the measures that the documents name, and reading an image takes up what it was written
 -- from. Assumes nothing.
 use mathlib.Core.Bool.{false, cond, not, _&&_}
 use mathlib.Core.List.{List}
@@ -18,7 +18,7 @@ use Rattle.image.proofs.Reading.{read-of-image}
 use Rattle.image.proofs.Judging.{is-image-says, image-passes}
 use Rattle.call_sets.proofs.Members.{joined-members, left-members, joined-measure, left-measure}
 use Rattle.history.specs.Book.{listed, withKey, withoutKey}
-use Rattle.history.specs.Theorems.{Entries}
+use Rattle.history.specs.Theorems.{BookRules}
 
 -- which of two keys is named first does not matter
 either-way-equal : (key other : ℕ) → eqb key other ≡ eqb other key
@@ -50,8 +50,8 @@ leaves-measured key other book =
     rw e (not-found (withoutKey key book .entries) other gone))
     (λ e. rw e (left-measure key other (book .entries) e))
 
-pub entries : Entries
-entries =
+pub book-rules : BookRules
+book-rules =
     record {
       lists = λ order list lengths corrections. with-keys list (measuresBeside lengths corrections);
       lists-measures = beside-listed;
