@@ -30,14 +30,14 @@ lies-zero (negsuc n) h = absurd (true-or-false false h refl)
 
 -- ---- between −(k + 1) and k + 1
 module _ (k : ℕ) where
-  abbrev Near : ℤ → Type 0
+  abbrev pub Near : ℤ → Type 0
   Near z = liesZ (negsuc k) (pos (suc k)) z ≡ true
 
-  few-below : (n : ℕ) → Near (negsuc n) → n ≤ k
+  pub few-below : (n : ℕ) → Near (negsuc n) → n ≤ k
   unfolding liesZ
   few-below n h = leb-true n k (and-left (leb n k) true h)
 
-  few-above : (n : ℕ) → Near (pos n) → n ≤ suc k
+  pub few-above : (n : ℕ) → Near (pos n) → n ≤ suc k
   unfolding liesZ
   few-above n h = leb-true n (suc k) h
 

@@ -3,14 +3,13 @@ use mathlib.Core.Bool.{true}
 use mathlib.Core.Path.{_≡_, sym, ap, _∙_, subst}
 use Prim.Native.Nat.{ℕ}
 use native.Mathlib.Omega.{arith}
-use lib.IntN.{ℤ}
 use lib.ListN.{length}
 use mir.Syntax.{w32}
 use mir.Val.{toZ, ofZ}
-use mir.ValLaws.{toZ-ofZ}
 use borrow.Author.Tests.{not-true, not-false}
 use Rattle.measure.specs.Measure.{Measure, isMeasure}
 use Rattle.measure.specs.Tag.{tagOf, measureAt, isTag}
+use Rattle.measure.proofs.Shown.{handed-on}
 use Rattle.measure.proofs.Tags.{measure-of-tag, measure-tags}
 use Rattle.table_limits.proofs.Lengths.{slots-for-some}
 use Rattle.call_meaning.specs.Calls.{insertReply, insertAfter}
@@ -24,7 +23,7 @@ abbrev measure : tie.Start → Measure
 measure p = record { length = p .args .length; correction = p .args .correction }
 
 same : (p : tie.Start) → record { length = p .args .length; correction = toZ w32 (ofZ w32 (p .args .correction)) } ≡ measure p
-same p = ap (λ (z : ℤ). record { length = p .args .length; correction = z }) (toZ-ofZ w32 (p .args .correction) (p .fits .correction))
+same p = handed-on (p .args .length) (p .args .correction) (p .fits .correction)
 
 -- past the tests it is within the rules
 is-right : (p : tie.Else3) → isMeasure (measure (p .before .before .before .before .before .before)) ≡ true
