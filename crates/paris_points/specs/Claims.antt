@@ -1,0 +1,36 @@
+-- What is claimed of sizes (document 02, N5); `proofs/Claims` proves it. Assumes nothing.
+use mathlib.Core.Bool.{true}
+use mathlib.Core.List.{List, [], _∷_, map}
+use mathlib.Core.Option.{Option, none, some}
+use mathlib.Core.Path.{_≡_}
+use lib.IntN.{ℤ, pos, negℤ}
+use Rattle.measure.specs.Measure.{Measure, unmeasured, liesZ}
+use Rattle.paris_points.specs.Points.{corrected, leastCorrected, greatestCorrected, halfPoints, rest, leastRest, greatestRest, Size, sizeOf, IsMeasured}
+
+-- "A t of 26,500 gives 80 half points, rest −500", without a correction and with one. One of 26,833 has the same size and the greatest rest. "An
+-- unmeasured last has no size and no rest."
+abbrev pub lasts : List Measure
+lasts =
+    record { length = 26500; correction = pos 0 }
+    ∷ record { length = 26750; correction = negℤ (pos 250) }
+    ∷ record { length = 26833; correction = pos 0 }
+    ∷ unmeasured
+    ∷ []
+
+abbrev pub sizes : List (Option Size)
+sizes =
+    some (record { halfPoints = 80; rest = negℤ (pos 500) })
+    ∷ some (record { halfPoints = 80; rest = negℤ (pos 500) })
+    ∷ some (record { halfPoints = 80; rest = pos 499 })
+    ∷ none
+    ∷ []
+
+pub record Sizes : Type 0 where
+  -- t is above zero for every measured last, so that `natAbs` leaves it as it is
+  pub corrected-lies : (m : Measure) → IsMeasured m → liesZ (pos leastCorrected) (pos greatestCorrected) (corrected m) ≡ true
+  -- the rest "is from −500 to 499", for every measured last
+  pub rest-lies : (m : Measure) → IsMeasured m → liesZ leastRest greatestRest (rest (corrected m)) ≡ true
+  -- size and rest determine t
+  pub determine : (t u : ℤ) → halfPoints t ≡ halfPoints u → rest t ≡ rest u → t ≡ u
+  -- the worked sizes
+  pub worked : map sizeOf lasts ≡ sizes

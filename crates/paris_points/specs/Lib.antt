@@ -1,0 +1,3 @@
+-- The size of a last in half points, and what is claimed of it.
+pub mod Points
+pub mod Claims
