@@ -29,6 +29,8 @@ use Rattle.call_replies.specs.declared.Listed.{Listed}
 use Rattle.call_replies.specs.declared.Listed.the-variants as listed
 use Rattle.call_replies.specs.declared.Stepped.{Stepped}
 use Rattle.call_replies.specs.declared.Stepped.the-variants as stepped
+use Rattle.call_replies.specs.declared.Pointed.{Pointed}
+use Rattle.call_replies.specs.declared.Pointed.the-variants as pointed
 
 -- "A refusal returns its number, all other numbers zero": the number, zero when the call is accepted, and the others.
 pub record Reply : Type 0 where
@@ -91,7 +93,7 @@ lookedUpOf (looked-up.Held s blocks) = record { refusal = 0; numbers = 1 ∷ s .
 lookedUpOf (looked-up.Absent blocks) = record { refusal = 0; numbers = 0 ∷ 0 ∷ 0 ∷ 0 ∷ blocks ∷ 0 ∷ [] }
 lookedUpOf (looked-up.Refused r) = record { refusal = numberOf r; numbers = 0 ∷ 0 ∷ 0 ∷ 0 ∷ 0 ∷ 0 ∷ [] }
 
--- The correction that a lookup gives, the one number of a reply that has a sign; zero where there is none.
+-- The correction that a lookup gives, a number with a sign; zero where there is none.
 abbrev pub correctionOf : LookedUp → ℤ
 correctionOf (looked-up.Held s blocks) = s .correction
 correctionOf (looked-up.Absent blocks) = pos 0
@@ -126,6 +128,18 @@ abbrev pub steppedOf : Stepped → Reply
 steppedOf (stepped.Key k) = record { refusal = 0; numbers = 1 ∷ k ∷ [] }
 steppedOf stepped.End = record { refusal = 0; numbers = 0 ∷ 0 ∷ [] }
 steppedOf (stepped.Refused r) = record { refusal = numberOf r; numbers = 0 ∷ 0 ∷ [] }
+
+-- "The last's size in half points" (02, N5): one for a measured last, and its half points; "an unmeasured last has no size", two zeros.
+abbrev pub pointedOf : Pointed → Reply
+pointedOf (pointed.Size halfPoints rest) = record { refusal = 0; numbers = 1 ∷ halfPoints ∷ [] }
+pointedOf pointed.NotMeasured = record { refusal = 0; numbers = 0 ∷ 0 ∷ [] }
+pointedOf (pointed.Refused r) = record { refusal = numberOf r; numbers = 0 ∷ 0 ∷ [] }
+
+-- "The signed rest", a number with a sign; zero where there is none.
+abbrev pub restOf : Pointed → ℤ
+restOf (pointed.Size halfPoints rest) = rest
+restOf pointed.NotMeasured = pos 0
+restOf (pointed.Refused r) = pos 0
 
 module _ {A : Type 0} where
   -- "A refusal returns its number, all other numbers zero, and changes no lent memory": what a call that was refused under this

@@ -124,3 +124,10 @@ pub enum Stepped {
     End,
     Refused(Refusal),
 }
+
+// The answer for a size in Paris points: the half points of a measured last and the signed rest.
+pub enum Pointed {
+    Size(u64, i64),
+    NotMeasured,
+    Refused(Refusal),
+}

@@ -23,3 +23,6 @@ pub use call_step::step_at;
 // Write a table's image; list an image.
 pub use call_image::write;
 pub use call_list::list;
+
+// The size of a measure in Paris points; no table is lent.
+pub use call_points::points;

@@ -1,0 +1,2 @@
+-- What is replied for a size.
+pub mod Pointed
