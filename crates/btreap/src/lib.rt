@@ -1,12 +1,17 @@
 // The calls of the index as functions that a C or a Rust program links. Each takes any words, numbers and bytes, keeps no state, and
 // changes none of the lent memory where it refuses.
 ghost use mathlib.Core.Path.{_≡_};
+ghost use mathlib.Core.Bool.{true};
+ghost use Rattle.measure.specs.Measure.{liesZ};
+ghost use Rattle.paris_points.specs.Points.{leastRest, greatestRest};
 ghost use Rattle.call_batch.specs.Batch.{batchReply, batchAfter};
 ghost use Rattle.call_step.specs.Steps.{stepReply, stepPlace};
 ghost use Rattle.call_meaning.specs.Calls.{setUpReply, setUpAfter, loadReply, loadAfter, buildReply, buildAfter, insertReply, insertAfter, deleteReply, deleteAfter, lookupReply, lookupCorrection, rangeReply, rangeOutput, writeReply, writeOutput, readReply, readAfter};
 ghost use Rattle.call_list.specs.Listed.{listReply, listOutput};
-ghost use Rattle.btreap_structs.specs.Structs.{ranked, found, sized, stepped, placeGiven, markAfter};
+ghost use Rattle.call_points.specs.Pointed.{pointsReply, pointsRest};
+ghost use Rattle.btreap_structs.specs.Structs.{ranked, found, sized, stepped, placeGiven, markAfter, pointed};
 use btreap_structs::FoundReply;
+use btreap_structs::PointedReply;
 use btreap_structs::RankedReply;
 use btreap_structs::SizedReply;
 use btreap_structs::SteppedReply;
@@ -150,4 +155,16 @@ pub extern "C" fn btreap_list(image: &[u8], output: &mut [u8]) -> SizedReply
 {
     let answer = index::list(image, output);
     btreap_structs::listed(answer)
+}
+
+// The size of a length and a correction in half points, and the signed rest, from -500 to 499 thousandths of one; zeros when they are zeros,
+// which is not measured. No table is lent. Refusal: 12.
+#[no_mangle]
+pub extern "C" fn btreap_points(length: u64, correction: i32) -> PointedReply
+    ensures { λ r. ⌜ pointed r ≡ pointsReply (record { length = length; correction = correction }) ⌝ }
+    ensures { λ r. ⌜ r .rest ≡ pointsRest (record { length = length; correction = correction }) ⌝ }
+    ensures { λ r. ⌜ liesZ leastRest greatestRest (r .rest) ≡ true ⌝ }
+{
+    let answer = index::points(length, correction);
+    btreap_structs::pointed(answer)
 }

@@ -10,10 +10,11 @@ use Rattle.btreap_structs.specs.declared.RankedReply.{RankedReply}
 use Rattle.btreap_structs.specs.declared.FoundReply.{FoundReply}
 use Rattle.btreap_structs.specs.declared.SizedReply.{SizedReply}
 use Rattle.btreap_structs.specs.declared.SteppedReply.{SteppedReply}
+use Rattle.btreap_structs.specs.declared.PointedReply.{PointedReply}
 
 -- "`refusal` is 0 when the call was accepted; all other numbers of a reply are 0 when it was refused": each struct is the refusal and the
--- other numbers of a reply. A lookup's correction, the one number with a sign, is equated by itself. A step's place (next, high, done) is no
--- part of its reply, and comes back as it was passed.
+-- other numbers of a reply. A lookup's correction and the rest of a size, which have signs, are equated by themselves. A step's place (next,
+-- high, done) is no part of its reply, and comes back as it was passed.
 abbrev pub ranked : RankedReply → Reply
 ranked r = record { refusal = r .refusal; numbers = r .rank ∷ [] }
 
@@ -29,6 +30,13 @@ sized r = record { refusal = r .refusal; numbers = r .size ∷ [] }
 
 abbrev pub stepped : SteppedReply → Reply
 stepped r = record { refusal = r .refusal; numbers = r .found ∷ r .key ∷ [] }
+
+abbrev pub pointed : PointedReply → Reply
+pointed r = record { refusal = r .refusal; numbers = r .measured ∷ r .«half_points» ∷ [] }
+
+-- The reply for a measure that has no size, or was refused.
+abbrev pub noSize : ℕ → Reply
+noSize refusal = record { refusal = refusal; numbers = 0 ∷ 0 ∷ [] }
 
 -- "`done` counts as set when it is not 0."
 abbrev pub isSet : ℕ → Bool

@@ -2,9 +2,10 @@
 // numbers, zero where there is one.
 ghost use mathlib.Core.Path.{_≡_};
 ghost use lib.IntN.{pos};
-ghost use Rattle.call_replies.specs.Replies.{numberOf, setUpOf, loadedOf, builtOf, insertedOf, deletedOf, lookedUpOf, correctionOf, batchedOf, rangedOf, steppedOf, writtenOf, readBackOf, listedOf};
+ghost use Rattle.call_replies.specs.Replies.{numberOf, setUpOf, loadedOf, builtOf, insertedOf, deletedOf, lookedUpOf, correctionOf, batchedOf, rangedOf, steppedOf, writtenOf, readBackOf, listedOf, pointedOf, restOf};
 ghost use Rattle.call_replies.specs.declared.LookedUp.the-variants.{Held};
-ghost use Rattle.btreap_structs.specs.Structs.{ranked, found, noneFound, sized, stepped, markAfter};
+ghost use Rattle.call_replies.specs.declared.Pointed.the-variants.{Size};
+ghost use Rattle.btreap_structs.specs.Structs.{ranked, found, noneFound, sized, stepped, markAfter, pointed, noSize};
 use call_replies::Batched;
 use call_replies::Built;
 use call_replies::Deleted;
@@ -12,6 +13,7 @@ use call_replies::Inserted;
 use call_replies::Listed;
 use call_replies::Loaded;
 use call_replies::LookedUp;
+use call_replies::Pointed;
 use call_replies::Ranged;
 use call_replies::ReadBack;
 use call_replies::Refusal;
@@ -27,7 +29,7 @@ pub struct RankedReply {
     pub rank: u64,
 }
 
-// `btreap_found`; `held` is one or zero. The correction, last, is the one number with a sign.
+// `btreap_found`; `held` is one or zero. The correction, last, has a sign.
 #[repr(C)]
 pub struct FoundReply {
     pub refusal: u64,
@@ -56,6 +58,15 @@ pub struct SteppedReply {
     pub next: u64,
     pub high: u64,
     pub done: u64,
+}
+
+// `btreap_pointed`; `measured` is one or zero. The rest, last, has a sign.
+#[repr(C)]
+pub struct PointedReply {
+    pub refusal: u64,
+    pub measured: u64,
+    pub half_points: u64,
+    pub rest: i64,
 }
 
 // The reply of a call that was accepted with a rank, and of one that was refused.
@@ -267,5 +278,39 @@ pub fn stepped(answer: Stepped, next: u64, high: u64, done: u64) -> SteppedReply
             high,
             done,
         },
+    }
+}
+
+// The reply for a measure that has a size, and for one that has none: it is not measured, or it was refused.
+fn points_given(size: u64, rest: i64) -> PointedReply
+    ensures { λ r. ⌜ (pointed r ≡ pointedOf (Size size rest)) × (r .rest ≡ rest) ⌝ }
+{
+    PointedReply {
+        refusal: 0,
+        measured: 1,
+        half_points: size,
+        rest,
+    }
+}
+
+fn no_size(refusal: u64) -> PointedReply
+    ensures { λ r. ⌜ (pointed r ≡ noSize refusal) × (r .rest ≡ pos 0) ⌝ }
+{
+    PointedReply {
+        refusal,
+        measured: 0,
+        half_points: 0,
+        rest: 0,
+    }
+}
+
+pub fn pointed(answer: Pointed) -> PointedReply
+    ensures { λ r. ⌜ pointed r ≡ pointedOf answer ⌝ }
+    ensures { λ r. ⌜ r .rest ≡ restOf answer ⌝ }
+{
+    match answer {
+        Pointed::Size(size, rest) => points_given(size, rest),
+        Pointed::NotMeasured => no_size(0),
+        Pointed::Refused(reason) => no_size(call_replies::number(reason)),
     }
 }

@@ -12,6 +12,7 @@ use call_replies::Inserted;
 use call_replies::Listed;
 use call_replies::Loaded;
 use call_replies::LookedUp;
+use call_replies::Pointed;
 use call_replies::Ranged;
 use call_replies::ReadBack;
 use call_replies::Refusal;
@@ -338,4 +339,24 @@ pub fn step(table: &[u64], place: Place) -> Place {
     let answer = moved.answer;
     stepped(answer);
     moved.place
+}
+
+// The size of a length and a correction, in half points, and the rest.
+pub fn points(length: u64, correction: i32) {
+    say(b"points of");
+    tell(length);
+    tell_correction(correction);
+    say(b":");
+    let answer = index::points(length, correction);
+    match answer {
+        Pointed::Size(size, rest) => {
+            say(b" 0 half points");
+            tell(size);
+            say(b" rest");
+            tell_signed(rest);
+        }
+        Pointed::NotMeasured => say(b" 0 not measured"),
+        Pointed::Refused(reason) => refused(reason),
+    }
+    say(b"\n");
 }

@@ -1,6 +1,6 @@
 // Runs the calls: first on the figures of documents 01 and 02, then loads, then a session on three slots in which keys come with measures and
-// without, are looked up alone and together, a range is read at once and key by key and an image is written, read and listed, and last over
-// words that are no table and a table that is not sound. Every refusal of every call is met.
+// without, are looked up alone and together, a range is read at once and key by key and an image is written, read and listed, then over
+// words that are no table and a table that is not sound, and last sizes in Paris points. Every refusal of every call is met.
 use index::Place;
 
 mod calls;
@@ -262,6 +262,25 @@ fn damaged(table: &mut [u64]) {
     use_table(table);
 }
 
+// Sizes: the figure of document 02, another with the same corrected length, a greatest rest, and the least and the greatest size.
+fn sizes() {
+    calls::points(26500, 0);
+    calls::points(26750, -250);
+    calls::points(26833, 0);
+    calls::points(10000, -5000);
+    calls::points(40000, 5000);
+}
+
+// Numbers that have no size: what is not measured, and measures outside the rules.
+fn no_sizes() {
+    calls::points(0, 0);
+    calls::points(0, 250);
+    calls::points(9999, 0);
+    calls::points(40001, 0);
+    calls::points(26500, -5001);
+    calls::points(26500, 5001);
+}
+
 fn main() {
     try_lengths();
     let mut table = [0u64; THREE_SLOTS];
@@ -275,4 +294,6 @@ fn main() {
     try_images(&mut table);
     no_table();
     damaged(&mut table);
+    sizes();
+    no_sizes();
 }
