@@ -1,8 +1,9 @@
 //! The calls of document 01 and the load of document 02, each with its
 //! refusals, inserts, builds and lookups with the measures of document 02; its batch
-//! is in [`crate::batch`]. "A refusal returns its number, all other numbers zero, and
-//! changes no lent memory, the place included. The lowest number that applies is
-//! returned", but for 12, "checked straight after 5, on insert after 3".
+//! is in [`crate::batch`], its sizes are in [`crate::points`]. "A refusal returns its
+//! number, all other numbers zero, and changes no lent memory, the place included. The
+//! lowest number that applies is returned", but for 12, "checked straight after 5, on
+//! insert after 3".
 
 use crate::blocks::blocks_met;
 use crate::image::{contents_of, image};

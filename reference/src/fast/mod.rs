@@ -18,6 +18,7 @@ mod listing;
 mod load;
 mod node;
 mod placed;
+mod points;
 mod reader;
 mod record;
 mod stored;
@@ -27,6 +28,7 @@ use crate::calls::*;
 use crate::is_order;
 use crate::load::operations;
 use crate::measure::Measure;
+use crate::points::{pointed, PointsReply};
 use fresh::Nodes;
 use image::Layout;
 use judge::judge;
@@ -273,4 +275,9 @@ fn try_list(bytes: &[u8], output: &mut [u8]) -> Outcome<usize> {
     let length = listing::length(&layout);
     listing::write(&layout, output.get_mut(..length).ok_or(OUTPUT_SHORT)?);
     Ok(length)
+}
+
+/// "the check is 12"
+pub fn points(measure: Measure) -> PointsReply {
+    pointed(Stored::new(measure).map(points::size).ok_or(MEASURE))
 }
