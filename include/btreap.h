@@ -38,7 +38,7 @@
  *
  * The calls keep no state, allocate nothing, print nothing and may run at the same time in any number of threads, on different tables or, where
  * they only read it, on one. Stack, as measured: up to 440,000 bytes for btreap_read and btreap_list, up to 180,000 for the other calls,
- * whatever the table's size; next to none for btreap_set_up.
+ * whatever the table's size; next to none for btreap_set_up and btreap_points.
  *
  * Link with -lbtreap (x86-64 Linux); the archive needs nothing but the C library's memory functions. `pkg-config --cflags --libs btreap`.
  */
@@ -95,6 +95,11 @@ struct btreap_sized {
 
 struct btreap_stepped {
     uint64_t refusal, found, key, next, high, done;
+};
+
+struct btreap_pointed {
+    uint64_t refusal, measured, half_points;
+    int64_t rest;
 };
 
 /* One line of a batch: the key to look up, and the places for what is said of it. */
@@ -156,6 +161,13 @@ uint64_t btreap_read(uint64_t *table, size_t words, const uint8_t *image, size_t
 /* Write the text of an image at the start of out: a line for the header, each block and each key; size is its length in bytes, at most ten
  * times the image's, and later bytes of out are as they were. Refusals: 6, 11. */
 struct btreap_sized btreap_list(const uint8_t *image, size_t bytes, uint8_t *out, size_t out_bytes);
+
+/* The size of a last, the form that a shoe is made on, which has this measure. It is in half points: two of them are a Paris point, two
+ * thirds of a centimetre, so that size 40.0 is 80 half points. With t the length plus the correction, half_points is 3*t/1,000 rounded to
+ * the nearest whole number, a half going up: 15 to 135. rest is 3*t less 1,000 times half_points, in thousandths of a half point: -500 to
+ * 499. measured is 1; where it is 0 the last is not measured (length 0, correction 0), and half_points and rest are 0 too. The call is lent
+ * no memory. Refusals: 12. */
+struct btreap_pointed btreap_points(uint64_t length, int32_t correction);
 
 #ifdef __cplusplus
 }

@@ -16,9 +16,11 @@
 use std::fmt;
 
 mod measure;
+mod size;
 pub mod sys;
 
 pub use measure::Measure;
+pub use size::Size;
 pub use sys::Question;
 
 /// The most slots that a table has.
@@ -291,4 +293,19 @@ pub fn list(image: &[u8], out: &mut [u8]) -> Result<usize, Refusal> {
     // SAFETY: as in `build_measured`.
     let reply = unsafe { sys::btreap_list(image.as_ptr(), image.len(), out.as_mut_ptr(), out.len()) };
     unless_refused(reply.refusal, reply.size as usize)
+}
+
+/// The size of a last with this measure; `None` when it is not measured. Refusals: 12.
+///
+/// ```
+/// use btreap::{Measure, Refusal, Size};
+/// assert_eq!(btreap::points(Measure::new(26_500, 0)), Ok(Some(Size { half_points: 80, rest: -500 })));
+/// assert_eq!(btreap::points(Measure::NONE), Ok(None));
+/// assert_eq!(btreap::points(Measure::new(9_999, 0)), Err(Refusal::WrongMeasure));
+/// ```
+pub fn points(measure: Measure) -> Result<Option<Size>, Refusal> {
+    // SAFETY: it is handed two numbers, and no memory.
+    let reply = unsafe { sys::btreap_points(measure.length, measure.correction) };
+    let sys::PointedReply { half_points, rest, .. } = reply;
+    unless_refused(reply.refusal, (reply.measured != 0).then_some(Size { half_points, rest }))
 }

@@ -42,6 +42,16 @@ pub struct SteppedReply {
     pub done: u64,
 }
 
+/// The reply of `btreap_points`.
+#[repr(C)]
+#[derive(Clone, Copy, Debug, PartialEq, Eq)]
+pub struct PointedReply {
+    pub refusal: u64,
+    pub measured: u64,
+    pub half_points: u64,
+    pub rest: i64,
+}
+
 /// A line of a batch: the key to look up, and the places for what is said of it.
 #[repr(C)]
 #[derive(Clone, Copy, Debug, PartialEq, Eq)]
@@ -76,4 +86,5 @@ extern "C" {
     pub fn btreap_write(table: *const u64, words: usize, out: *mut u8, out_bytes: usize) -> SizedReply;
     pub fn btreap_read(table: *mut u64, words: usize, image: *const u8, bytes: usize) -> u64;
     pub fn btreap_list(image: *const u8, bytes: usize, out: *mut u8, out_bytes: usize) -> SizedReply;
+    pub fn btreap_points(length: u64, correction: i32) -> PointedReply;
 }
