@@ -94,6 +94,7 @@ impl Lent {
                 Call::Write { room } => sized(sys::btreap_write(t, n, bytes, room)),
                 Call::Read { .. } => plain(sys::btreap_read(t, n, image, length)),
                 Call::List { room, .. } => sized(sys::btreap_list(image, length, bytes, room)),
+                Call::Points { measure: m } => pointed(sys::btreap_points(m.length, m.correction)),
             }
         };
         (reply, None)
@@ -194,6 +195,17 @@ fn stepped(reply: sys::SteppedReply) -> (Reply, Option<Place>) {
     let numbers = vec![("found", reply.found), ("key", reply.key)];
     let refusal = reply.refusal;
     (Reply { refusal, numbers }, Some(place))
+}
+
+fn pointed(reply: sys::PointedReply) -> Reply {
+    Reply {
+        refusal: reply.refusal,
+        numbers: vec![
+            ("measured", reply.measured),
+            ("half points", reply.half_points),
+            ("rest", bits(reply.rest)),
+        ],
+    }
 }
 
 #[cfg(test)]

@@ -1,4 +1,4 @@
-//! The twelve calls, each with all that it is given but the table.
+//! The thirteen calls, each with all that it is given but the table.
 
 use crate::list::List;
 use crate::pages::Access;
@@ -48,6 +48,7 @@ pub enum Call {
     Write { room: usize },
     Read { image: Vec<u8> },
     List { image: Vec<u8>, room: usize },
+    Points { measure: Measure },
 }
 
 impl Call {
@@ -70,7 +71,7 @@ impl Call {
             Call::Load { .. } | Call::Insert { .. } | Call::Delete { .. } => Access::Write,
             Call::LookUp { .. } | Call::LookUpBatch { .. } => Access::Read,
             Call::Range { .. } | Call::Step { .. } => Access::Read,
-            Call::Write { .. } | Call::List { .. } => Access::Read,
+            Call::Write { .. } | Call::List { .. } | Call::Points { .. } => Access::Read,
         }
     }
 
@@ -140,11 +141,7 @@ impl fmt::Debug for Call {
             Call::Load { order, seed, count } => {
                 write!(out, "load, order {order}, {count} operations from {seed}")
             }
-            Call::Insert { key, measure } => write!(
-                out,
-                "insert {key}, length {}, correction {}",
-                measure.length, measure.correction
-            ),
+            Call::Insert { key, measure } => write!(out, "insert {key}, {}", in_words(*measure)),
             Call::Delete { key } => write!(out, "delete {key}"),
             Call::LookUp { key } => write!(out, "look-up {key}"),
             Call::LookUpBatch { keys } => write!(out, "look-up of a batch, {}", short(keys)),
@@ -157,8 +154,14 @@ impl fmt::Debug for Call {
             Call::List { image, room } => {
                 write!(out, "list {} into {room} bytes", short_bytes(image))
             }
+            Call::Points { measure } => write!(out, "points, {}", in_words(*measure)),
         }
     }
+}
+
+fn in_words(measure: Measure) -> String {
+    let Measure { length, correction } = measure;
+    format!("length {length}, correction {correction}")
 }
 
 /// What an output word holds before the call: no two are alike, so that a word

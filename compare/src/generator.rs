@@ -10,10 +10,10 @@ use crate::random::Random;
 use crate::tables::{image_length, keys_in, listing_length, measured_image, set_in};
 
 /// How many of a hundred calls are of each kind.
-const SHARES: [(usize, Kind); 12] = [
-    (20, Kind::Insert),
+const SHARES: [(usize, Kind); 13] = [
+    (19, Kind::Insert),
     (16, Kind::Delete),
-    (10, Kind::Step),
+    (9, Kind::Step),
     (10, Kind::LookUp),
     (8, Kind::Range),
     (6, Kind::LookUpBatch),
@@ -23,6 +23,7 @@ const SHARES: [(usize, Kind); 12] = [
     (5, Kind::List),
     (2, Kind::SetUp),
     (2, Kind::Load),
+    (2, Kind::Points),
 ];
 
 #[derive(Clone, Copy)]
@@ -39,6 +40,7 @@ enum Kind {
     Write,
     Read,
     List,
+    Points,
 }
 
 /// Orders that are none. Some would be one if they were cut to fewer bits.
@@ -102,6 +104,9 @@ impl Generator {
                 image: self.image(table, random),
             },
             Kind::List => self.list_image(random),
+            Kind::Points => Call::Points {
+                measure: measures::any(4, random),
+            },
         }
     }
 

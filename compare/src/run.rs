@@ -9,7 +9,7 @@ use std::thread;
 use std::time::Instant;
 
 /// The default run compares at least so many calls.
-pub const FEWEST_CALLS: u64 = 300_000;
+pub const FEWEST_CALLS: u64 = 500_000;
 
 /// The second program walks down a chain of 4,096 keys by recursion.
 const STACK: usize = 256 << 20;

@@ -7,6 +7,7 @@ use crate::outcome::{Outcome, Reply};
 use btreap::Question;
 use reference::batch;
 use reference::calls::{self, LengthReply, LookUpReply, PlainReply, RankReply, StepReply, REAL};
+use reference::points::{points, PointsReply};
 
 /// Makes the call on a copy of the table.
 pub fn run_second_program(call: &Call, table: &[u64]) -> Outcome {
@@ -26,6 +27,7 @@ pub fn run_second_program(call: &Call, table: &[u64]) -> Outcome {
         Call::Write { .. } => sized(REAL.write_image(table, &mut after.bytes)),
         Call::Read { image } => plain(REAL.read_image(&mut after.table, image)),
         Call::List { image, .. } => sized(REAL.list(image, &mut after.bytes)),
+        Call::Points { measure } => pointed(points(*measure)),
     };
     after
 }
@@ -102,5 +104,16 @@ fn stepped(reply: StepReply) -> Reply {
     Reply {
         refusal: reply.refusal,
         numbers: vec![("found", reply.yielded.into()), ("key", reply.key)],
+    }
+}
+
+fn pointed(reply: PointsReply) -> Reply {
+    Reply {
+        refusal: reply.refusal,
+        numbers: vec![
+            ("measured", reply.measured.into()),
+            ("half points", reply.half_points),
+            ("rest", bits(reply.rest)),
+        ],
     }
 }

@@ -12,13 +12,17 @@ use compare::outcome::{differences, refusal_faults, Outcome};
 use compare::run::{is_good, Total, FEWEST_CALLS};
 use compare::second_program::run_second_program;
 use compare::tables::listing_length;
+use reference::measure::Measure;
 
 /// One of each kind that is refused, on a table that is not one.
-fn refused_calls() -> [Call; 12] {
+fn refused_calls() -> [Call; 13] {
     let mut calls = accepted_calls();
     calls[9] = Call::List {
         image: vec![0; 20],
         room: 30,
+    };
+    calls[12] = Call::Points {
+        measure: Measure::new(9_999, 0),
     };
     calls
 }
@@ -92,8 +96,8 @@ fn each_wrong_number_of_a_reply_is_caught() {
             outcome.reply.numbers.push(("more", 0))
         });
     }
-    // Insert, delete, look-up, batch, range, step, writing, listing, twice.
-    assert_eq!(fields, 2 * (1 + 1 + 7 + 1 + 1 + 2 + 1 + 1));
+    // Insert, delete, look-up, batch, range, step, writing, listing, points, twice.
+    assert_eq!(fields, 2 * (1 + 1 + 7 + 1 + 1 + 2 + 1 + 1 + 3));
 }
 
 /// A correction below zero is compared by all its bits.
@@ -107,10 +111,28 @@ fn a_wrong_measure_of_a_lookup_is_caught() {
         numbers,
         [("length", 26_500), ("correction", correction as u64)]
     );
+    each_other_number_is_caught(&call, 6);
+}
+
+/// A rest below zero is compared so too.
+#[test]
+fn a_wrong_rest_is_caught() {
+    let measure = Measure::new(26_500, 0);
+    let call = Call::Points { measure };
+    let [outcome, _] = run_archive(&call, &table(), Empty::Address);
+    let rest = -500i64;
+    let due = [("measured", 1), ("half points", 80), ("rest", rest as u64)];
+    assert_eq!(outcome.reply.numbers, due);
+    each_other_number_is_caught(&call, 2);
+}
+
+/// The number at that place of the reply, which is below zero: cut to 32 bits, without
+/// its sign, and none.
+fn each_other_number_is_caught(call: &Call, place: usize) {
     let changes: [fn(u64) -> u64; 3] = [|n| n as u32 as u64, |n| n.wrapping_neg(), |_| 0];
     for change in changes {
-        caught(&call, &table(), |outcome| {
-            let given = &mut outcome.reply.numbers[6].1;
+        caught(call, &table(), |outcome| {
+            let given = &mut outcome.reply.numbers[place].1;
             *given = change(*given);
         });
     }

@@ -1,4 +1,4 @@
-//! Random histories: a set-up or a load over any words, then calls of all twelve
+//! Random histories: a set-up or a load over any words, then calls of all thirteen
 //! kinds on one table.
 
 use super::{exercise, Section, SLOTS};

@@ -19,6 +19,7 @@ mod listings;
 mod loads;
 mod long;
 mod measures;
+mod points;
 mod refusals;
 mod sets;
 mod shapes;
@@ -36,7 +37,7 @@ pub struct Section {
 }
 
 /// All sections; the longest first, so that threads finish together.
-pub const SECTIONS: [Section; 23] = [
+pub const SECTIONS: [Section; 24] = [
     loads::SECTION,
     batches::SECTION,
     histories::SECTION,
@@ -51,6 +52,7 @@ pub const SECTIONS: [Section; 23] = [
     damaged_tables::SECTION,
     damaged_images::SECTION,
     forged::SECTION,
+    points::SECTION,
     measures::SECTION,
     damaged_measures::SECTION,
     listings::SECTION,

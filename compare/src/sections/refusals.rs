@@ -81,7 +81,7 @@ struct Kind {
     call: fn(&Faults) -> Call,
 }
 
-const KINDS: [Kind; 12] = [
+const KINDS: [Kind; 13] = [
     Kind {
         refusals: &[1, 2],
         call: set_up,
@@ -129,6 +129,10 @@ const KINDS: [Kind; 12] = [
     Kind {
         refusals: &[6, 11],
         call: list,
+    },
+    Kind {
+        refusals: &[12],
+        call: points,
     },
 ];
 
@@ -224,8 +228,12 @@ fn load(faults: &Faults) -> Call {
 fn insert(faults: &Faults) -> Call {
     let key = faults.choose(8, HELD, ABSENT);
     let key = faults.choose(3, 0, key);
-    let measure = faults.choose(12, faults.pick(&WRONG), faults.pick(&CORNERS));
+    let measure = measure(faults);
     Call::Insert { key, measure }
+}
+
+fn measure(faults: &Faults) -> Measure {
+    faults.choose(12, faults.pick(&WRONG), faults.pick(&CORNERS))
 }
 
 fn delete(faults: &Faults) -> Call {
@@ -330,6 +338,11 @@ fn list(faults: &Faults) -> Call {
     let short = faults.pick(&[length - 1, 0, 20]);
     let room = faults.choose(11, short, length + faults.way % 3);
     Call::List { image, room }
+}
+
+fn points(faults: &Faults) -> Call {
+    let measure = measure(faults);
+    Call::Points { measure }
 }
 
 /// Every number but zero is a mark that is set. Such a place is handed back as

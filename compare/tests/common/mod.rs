@@ -31,7 +31,7 @@ fn list() -> List {
 }
 
 /// One of each kind that is accepted, outputs longer than needed.
-pub fn accepted_calls() -> [Call; 12] {
+pub fn accepted_calls() -> [Call; 13] {
     let image = measured_image(3, &set());
     [
         Call::SetUp { order: 9 },
@@ -68,6 +68,9 @@ pub fn accepted_calls() -> [Call; 12] {
         },
         Call::LookUpBatch {
             keys: vec![3, 4, 21, u64::MAX],
+        },
+        Call::Points {
+            measure: Measure::new(26_500, 0),
         },
     ]
 }
