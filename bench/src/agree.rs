@@ -5,7 +5,8 @@ use crate::batch::{for_fast, for_library};
 use crate::case::{Case, ORDER};
 use crate::load;
 use crate::measures::Measures;
-use btreap::{Found, Measure};
+use crate::points;
+use btreap::{Found, Measure, Refusal, Size};
 use reference::{fast, measure};
 
 /// Ends the run where a table, an image, a listing, a question or a reply differs.
@@ -50,6 +51,24 @@ pub fn check_load() {
             load::by_separate_calls(&mut other, count);
             assert!(one == other, "separate calls differ");
         }
+    }
+}
+
+/// The same for sizes: of the lasts that are timed, of one that is not measured and of
+/// one that is turned down.
+pub fn check_points() {
+    let others = [Measure::NONE, Measure::new(9_999, 0)];
+    for measure in points::for_library().into_iter().chain(others) {
+        let reply = fast::points(for_fast_form(measure));
+        let size = Size {
+            half_points: reply.half_points,
+            rest: reply.rest,
+        };
+        let due = match reply.refusal {
+            0 => Ok(reply.measured.then_some(size)),
+            refusal => Err(refusal),
+        };
+        assert_eq!(btreap::points(measure).map_err(Refusal::number), due);
     }
 }
 
@@ -117,7 +136,7 @@ fn for_fast_form(measure: Measure) -> measure::Measure {
 /// Both give the same rank, zero when refused, and leave the same words.
 fn check_change(
     table: &[u64],
-    ours: impl FnOnce(&mut [u64]) -> Result<u64, btreap::Refusal>,
+    ours: impl FnOnce(&mut [u64]) -> Result<u64, Refusal>,
     fast: impl FnOnce(&mut [u64]) -> u64,
 ) {
     let (mut one, mut other) = (table.to_vec(), table.to_vec());

@@ -65,6 +65,7 @@ fn depths(keys: &[u64]) -> Vec<(&'static str, usize)> {
     image.truncate(length);
     depth_of("read", &mut || done(btreap::read(t, &image)));
     depth_of("list", &mut || done(btreap::list(&image, &mut text)));
+    depth_of("points", &mut || done(btreap::points(measure)));
     depths
 }
 
@@ -115,7 +116,7 @@ mod tests {
             for (call, depth) in depths(&keys) {
                 let most = match call {
                     "read" | "list" => reading,
-                    "set_up" => NEXT_TO_NONE,
+                    "set_up" | "points" => NEXT_TO_NONE,
                     _ => other,
                 };
                 let slots = keys.len();

@@ -10,6 +10,7 @@ mod depths;
 mod load;
 mod measures;
 mod plain;
+mod points;
 mod report;
 mod rows;
 mod stack;

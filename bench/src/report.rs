@@ -4,6 +4,7 @@ use crate::agree;
 use crate::batch;
 use crate::case::{self, Case, BATCH, ORDER};
 use crate::load;
+use crate::points;
 use crate::rows::{Lent, Row};
 use crate::timing::least;
 
@@ -18,6 +19,7 @@ pub fn print() {
     );
     case::all().iter().for_each(print_case);
     print_load();
+    print_points();
 }
 
 /// The rows of a case. Reading the words is one job for all of them, so that its
@@ -86,6 +88,20 @@ fn print_load() {
         others[0], others[1], others[2]
     );
     println!("each is the least of {} rounds.", load::ROUNDS);
+}
+
+/// Sizes, which hang on no table.
+fn print_points() {
+    agree::check_points();
+    let times = points::times();
+    let [ours, fast] = times.map(|time| figures(time / 1000.0));
+    println!("\n### Points\n");
+    println!("| sizes, a call for each | µs | × (b) |");
+    println!("|---|---:|---:|");
+    let ratio = figures(times[0] / times[1]);
+    println!("| {} | {ours} | {ratio} |", points::LASTS);
+    let [one, one_fast] = times.map(|time| figures(time / points::LASTS as f64));
+    println!("\n(b) takes {fast} µs. One size takes {one} ns, in (b) {one_fast} ns.");
 }
 
 /// A number with three figures or so.
