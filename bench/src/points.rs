@@ -35,9 +35,12 @@ pub fn times() -> [f64; 2] {
 }
 
 fn add_up(sizes: impl Iterator<Item = Size>) {
-    let add =
-        |(half_points, rests), size: Size| (half_points + size.half_points, rests + size.rest);
-    black_box(sizes.fold((0, 0), add));
+    let (mut half_points, mut rests) = (0, 0);
+    for size in sizes {
+        half_points += size.half_points;
+        rests += size.rest;
+    }
+    black_box((half_points, rests));
 }
 
 fn by_library(measure: Measure) -> Size {
