@@ -162,11 +162,11 @@ uint64_t btreap_read(uint64_t *table, size_t words, const uint8_t *image, size_t
  * times the image's, and later bytes of out are as they were. Refusals: 6, 11. */
 struct btreap_sized btreap_list(const uint8_t *image, size_t bytes, uint8_t *out, size_t out_bytes);
 
-/* The size of a last, the form that a shoe is made on, which has this measure. It is in half points: two of them are a Paris point, two
- * thirds of a centimetre, so that size 40.0 is 80 half points. With t the length plus the correction, half_points is 3*t/1,000 rounded to
- * the nearest whole number, a half going up: 15 to 135. rest is 3*t less 1,000 times half_points, in thousandths of a half point: -500 to
- * 499. measured is 1; where it is 0 the last is not measured (length 0, correction 0), and half_points and rest are 0 too. The call is lent
- * no memory. Refusals: 12. */
+/* The size of a last, the form that a shoe is made on, with this measure. It is in half points: two of them are a Paris point, two thirds
+ * of a centimetre, so that size 40.0 is 80 half points. With t the length plus the correction, half_points is 3*t/1,000 rounded to the
+ * nearest whole number, a half going up: 15 to 135. rest is 3*t less 1,000 times half_points, in thousandths of a half point: -500 to 499.
+ * measured is 1; for a last that is not measured, with length 0 and correction 0, it is 0, and so are half_points and rest. The call is
+ * lent no memory. Refusals: 12. */
 struct btreap_pointed btreap_points(uint64_t length, int32_t correction);
 
 #ifdef __cplusplus

@@ -32,7 +32,8 @@ fn list() -> List {
 
 /// One of each kind that is accepted, outputs longer than needed.
 pub fn accepted_calls() -> [Call; 13] {
-    let image = measured_image(3, &set());
+    let (image, room) = (measured_image(3, &set()), listing_length(3, &KEYS) + 4);
+    let (place, measure) = (Place::WHOLE, Measure::new(26_500, 0));
     [
         Call::SetUp { order: 9 },
         Call::Build {
@@ -50,17 +51,12 @@ pub fn accepted_calls() -> [Call; 13] {
             high: 30,
             room: 6,
         },
-        Call::Step {
-            place: Place::WHOLE,
-        },
+        Call::Step { place },
         Call::Write { room: 400 },
         Call::Read {
             image: image.clone(),
         },
-        Call::List {
-            image,
-            room: listing_length(3, &KEYS) + 4,
-        },
+        Call::List { image, room },
         Call::Load {
             order: 5,
             seed: 2,
@@ -69,8 +65,6 @@ pub fn accepted_calls() -> [Call; 13] {
         Call::LookUpBatch {
             keys: vec![3, 4, 21, u64::MAX],
         },
-        Call::Points {
-            measure: Measure::new(26_500, 0),
-        },
+        Call::Points { measure },
     ]
 }
