@@ -1,7 +1,7 @@
 -- The rule of rounding, and what it makes of size and rest. Assumes nothing.
 use mathlib.Core.Bool.{true}
-use mathlib.Core.Path.{_≡_, sym, ap, ap₂, _∙_, subst}
-use Prim.Native.Nat.{ℕ, _+_, _*_, _/_, _%_, _≤_}
+use mathlib.Core.Path.{_≡_, sym, ap, ap₂, _∙_}
+use Prim.Native.Nat.{ℕ, _+_, _*_, _/_, _%_}
 use native.Mathlib.Omega.{arith}
 use lib.Dec.{ltb}
 use lib.IntN.{ℤ, pos, subℕ, _+ℤ_, _*ℤ_, -ℤ-+ℤ-cancel}
@@ -21,7 +21,7 @@ rounded-is n =
 
 -- ---- the rest
 module _ (t : ℕ) where
-  pub rest-is : rest (pos t) ≡ subℕ (perHundredth * t) (perHalfPoint * halfPoints (pos t))
+  rest-is : rest (pos t) ≡ subℕ (perHundredth * t) (perHalfPoint * halfPoints (pos t))
   unfolding rest
   rest-is = difference (perHundredth * t) (perHalfPoint * halfPoints (pos t))
 

@@ -4,8 +4,9 @@ use mathlib.Core.List.{List, [], _∷_, map}
 use mathlib.Core.Option.{Option, none, some}
 use mathlib.Core.Path.{_≡_}
 use lib.IntN.{ℤ, pos, negℤ}
+use Rattle.lists.specs.Lists.{lies}
 use Rattle.measure.specs.Measure.{Measure, unmeasured, liesZ}
-use Rattle.paris_points.specs.Points.{corrected, leastCorrected, greatestCorrected, halfPoints, rest, leastRest, greatestRest, Size, sizeOf, IsMeasured}
+use Rattle.paris_points.specs.Points.{corrected, leastCorrected, greatestCorrected, halfPoints, leastHalfPoints, greatestHalfPoints, rest, leastRest, greatestRest, Size, sizeOf, IsMeasured}
 
 -- "A t of 26,500 gives 80 half points, rest −500", without a correction and with one. One of 26,833 has the same size and the greatest rest. "An
 -- unmeasured last has no size and no rest."
@@ -28,6 +29,8 @@ sizes =
 pub record Sizes : Type 0 where
   -- t is above zero for every measured last, so that `natAbs` leaves it as it is
   pub corrected-lies : (m : Measure) → IsMeasured m → liesZ (pos leastCorrected) (pos greatestCorrected) (corrected m) ≡ true
+  -- its size is from 15 to 135 half points
+  pub size-lies : (m : Measure) → IsMeasured m → lies leastHalfPoints greatestHalfPoints (halfPoints (corrected m)) ≡ true
   -- the rest "is from −500 to 499", for every measured last
   pub rest-lies : (m : Measure) → IsMeasured m → liesZ leastRest greatestRest (rest (corrected m)) ≡ true
   -- size and rest determine t

@@ -23,7 +23,7 @@ leastCorrected = leastLength - greatestCorrection
 abbrev pub greatestCorrected : ℕ
 greatestCorrected = greatestLength + greatestCorrection
 
--- "A Paris point is two thirds of a centimetre": a hundredth of a millimetre is three thousandths of a half point, and t is 3·t of these.
+-- "A Paris point is two thirds of a centimetre": a hundredth of a millimetre is three thousandths of a half point, so that t is 3·t thousandths.
 abbrev pub perHundredth : ℕ
 perHundredth = 3
 
@@ -41,7 +41,10 @@ rounded thousandths =
 unfoldable pub halfPoints : ℤ → ℕ
 halfPoints t = rounded (perHundredth * natAbs t)
 
--- The greatest size that a measured last has: 45,000 · 3 are 135 half points.
+-- The sizes of measured lasts (`Claims.Sizes.size-lies`): 3 · 5,000 thousandths are 15 half points, 3 · 45,000 are 135.
+abbrev pub leastHalfPoints : ℕ
+leastHalfPoints = 15
+
 abbrev pub greatestHalfPoints : ℕ
 greatestHalfPoints = 135
 
