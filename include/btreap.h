@@ -12,6 +12,7 @@
  * The order.    3 to 255, chosen at set-up, build or load: a block of the tree has up to about twice that many keys.
  * The measure.  A length, 10,000 to 40,000, and a heel correction, -5,000 to 5,000, both in hundredths of a millimetre. A key that is not
  *               measured has length 0 and correction 0. The measure comes with its key; to change it, delete the key and insert it again.
+ *               btreap_points gives the size that a measure comes to.
  * The image.    15 + 14*b + 30*n + 6*m bytes for n keys in b blocks, m of the keys measured; no image is longer than
  *               BTREAP_LONGEST_IMAGE = 204,815 bytes.
  *
@@ -58,7 +59,7 @@ extern "C" {
 #define BTREAP_GREATEST_ORDER 255
 #define BTREAP_LONGEST_IMAGE 204815
 
-/* Measures, in hundredths of a millimetre; the last is the length of a key that has none. */
+/* Measures, in hundredths of a millimetre; BTREAP_NOT_MEASURED is the length of a key that has none. */
 #define BTREAP_LEAST_LENGTH 10000
 #define BTREAP_GREATEST_LENGTH 40000
 #define BTREAP_LEAST_CORRECTION (-5000)

@@ -129,7 +129,7 @@ fn check_insert(table: &[u64], key: u64, measure: Measure) {
 }
 
 /// The second program has a record of its own for a measure.
-fn for_fast_form(measure: Measure) -> measure::Measure {
+pub fn for_fast_form(measure: Measure) -> measure::Measure {
     measure::Measure::new(measure.length, measure.correction)
 }
 

@@ -1,5 +1,6 @@
 //! The sizes of many lasts, a call for each. One call is too short to be timed alone.
 
+use crate::agree::for_fast_form;
 use crate::black_box::black_box;
 use crate::candidates::{asking, expect};
 use crate::measures::Measures;
@@ -17,8 +18,7 @@ pub fn for_library() -> Vec<Measure> {
 
 /// The same for the second program.
 fn for_fast() -> Vec<measure::Measure> {
-    let same = |m: Measure| measure::Measure::new(m.length, m.correction);
-    for_library().into_iter().map(same).collect()
+    for_library().into_iter().map(for_fast_form).collect()
 }
 
 /// The least times in nanoseconds of the library's calls and of (b), which the compiler

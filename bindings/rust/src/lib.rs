@@ -1,5 +1,6 @@
 //! A safe wrapper of `libbtreap.a`: a set of 64-bit keys, each with its measure, kept in words that the caller lends, whose every word
-//! depends only on the order, the number of slots and the set. Each call takes any words and bytes; one that refuses changes none of them.
+//! depends only on the order, the number of slots and the set. Each call takes any words, numbers and bytes; one that refuses changes none of
+//! the lent memory.
 //!
 //! ```
 //! use btreap::Measure;

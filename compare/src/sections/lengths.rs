@@ -1,5 +1,5 @@
-//! Every call on tables of all small lengths and those about the greatest, and
-//! with nothing where a list, an image, an output or a table might be.
+//! Every call that is lent a table, on tables of all small lengths and those about the
+//! greatest, and with nothing where a list, an image, an output or a table might be.
 
 use super::Section;
 use crate::archive::Empty;

@@ -157,8 +157,8 @@ pub extern "C" fn btreap_list(image: &[u8], output: &mut [u8]) -> SizedReply
     btreap_structs::listed(answer)
 }
 
-// The size of a length and a correction in half points, and the signed rest, from -500 to 499 thousandths of one; zeros when they are zeros,
-// which is not measured. No table is lent. Refusal: 12.
+// The size of a length and a correction in half points, and the signed rest, from -500 to 499 thousandths of one; zeros for length 0 and
+// correction 0, which is not measured. No table is lent. Refusal: 12.
 #[no_mangle]
 pub extern "C" fn btreap_points(length: u64, correction: i32) -> PointedReply
     ensures { λ r. ⌜ pointed r ≡ pointsReply (record { length = length; correction = correction }) ⌝ }

@@ -35,8 +35,8 @@ abbrev pub pointed : PointedReply → Reply
 pointed r = record { refusal = r .refusal; numbers = r .measured ∷ r .«half_points» ∷ [] }
 
 -- The reply for a measure that has no size, or was refused.
-abbrev pub noSize : ℕ → Reply
-noSize refusal = record { refusal = refusal; numbers = 0 ∷ 0 ∷ [] }
+abbrev pub noPoints : ℕ → Reply
+noPoints refusal = record { refusal = refusal; numbers = 0 ∷ 0 ∷ [] }
 
 -- "`done` counts as set when it is not 0."
 abbrev pub isSet : ℕ → Bool

@@ -5,7 +5,7 @@ ghost use lib.IntN.{pos};
 ghost use Rattle.call_replies.specs.Replies.{numberOf, setUpOf, loadedOf, builtOf, insertedOf, deletedOf, lookedUpOf, correctionOf, batchedOf, rangedOf, steppedOf, writtenOf, readBackOf, listedOf, pointedOf, restOf};
 ghost use Rattle.call_replies.specs.declared.LookedUp.the-variants.{Held};
 ghost use Rattle.call_replies.specs.declared.Pointed.the-variants.{Size};
-ghost use Rattle.btreap_structs.specs.Structs.{ranked, found, noneFound, sized, stepped, markAfter, pointed, noSize};
+ghost use Rattle.btreap_structs.specs.Structs.{ranked, found, noneFound, sized, stepped, markAfter, pointed, noPoints};
 use call_replies::Batched;
 use call_replies::Built;
 use call_replies::Deleted;
@@ -293,8 +293,8 @@ fn points_given(size: u64, rest: i64) -> PointedReply
     }
 }
 
-fn no_size(refusal: u64) -> PointedReply
-    ensures { λ r. ⌜ (pointed r ≡ noSize refusal) × (r .rest ≡ pos 0) ⌝ }
+fn no_points(refusal: u64) -> PointedReply
+    ensures { λ r. ⌜ (pointed r ≡ noPoints refusal) × (r .rest ≡ pos 0) ⌝ }
 {
     PointedReply {
         refusal,
@@ -310,7 +310,7 @@ pub fn pointed(answer: Pointed) -> PointedReply
 {
     match answer {
         Pointed::Size(size, rest) => points_given(size, rest),
-        Pointed::NotMeasured => no_size(0),
-        Pointed::Refused(reason) => no_size(call_replies::number(reason)),
+        Pointed::NotMeasured => no_points(0),
+        Pointed::Refused(reason) => no_points(call_replies::number(reason)),
     }
 }

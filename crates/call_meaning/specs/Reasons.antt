@@ -62,8 +62,8 @@ tooManyKeys words n = record { number = 10; applies = ltb (slotsFor (length word
 unfoldable pub outputTooShort : ℕ → ℕ → Reason
 outputTooShort room long = record { number = 11; applies = ltb room long }
 
--- "12 for a measure outside these rules, missing or left over" (02, N4): on insert, the one measure; on build, of the lists of lengths and
--- corrections beside the keys, that one is shorter or longer than the keys, or that some measure is outside the rules.
+-- "12 for a measure outside these rules, missing or left over" (02, N4): on insert, and for a size (02, N5), the one measure; on build, of the
+-- lists of lengths and corrections beside the keys, that one is shorter or longer than the keys, or that some measure is outside the rules.
 unfoldable pub wrongMeasure : Measure → Reason
 wrongMeasure measure = record { number = 12; applies = not (isMeasure measure) }
 

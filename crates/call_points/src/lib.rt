@@ -8,8 +8,8 @@ ghost use Rattle.call_points.specs.Pointed.{pointsReply, pointsRest};
 use call_replies::Pointed;
 use call_replies::Refusal;
 
-// The size of a length and a correction in half points, and the signed rest, from -500 to 499 thousandths of one. No table is lent.
-// Refusal: 12.
+// The size of a length and a correction in half points, and the signed rest, from -500 to 499 thousandths of one; `NotMeasured` for length 0
+// and correction 0. No table is lent. Refusal: 12.
 pub fn points(length: u64, correction: i32) -> Pointed
     ensures { λ r. ⌜ pointedOf r ≡ pointsReply (record { length = length; correction = correction }) ⌝ }
     ensures { λ r. ⌜ restOf r ≡ pointsRest (record { length = length; correction = correction }) ⌝ }

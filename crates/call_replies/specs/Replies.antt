@@ -135,7 +135,7 @@ pointedOf (pointed.Size halfPoints rest) = record { refusal = 0; numbers = 1 ∷
 pointedOf pointed.NotMeasured = record { refusal = 0; numbers = 0 ∷ 0 ∷ [] }
 pointedOf (pointed.Refused r) = record { refusal = numberOf r; numbers = 0 ∷ 0 ∷ [] }
 
--- "The signed rest", a number with a sign; zero where there is none.
+-- "The signed rest"; zero where there is none.
 abbrev pub restOf : Pointed → ℤ
 restOf (pointed.Size halfPoints rest) = rest
 restOf pointed.NotMeasured = pos 0

@@ -3,11 +3,11 @@
 ghost use mathlib.Core.Path.{_≡_};
 ghost use mathlib.Core.Bool.{true};
 ghost use mathlib.Core.List.{map};
-ghost use Prim.Native.Nat.{_≤_, _<_};
+ghost use Prim.Native.Nat.{_+_, _^_, _≤_, _<_};
 ghost use lib.ListN.{length};
-ghost use lib.IntN.{pos, natAbs, _+ℤ_};
+ghost use lib.IntN.{pos, _+ℤ_, _-ℤ_};
 ghost use Rattle.lists.specs.Lists.{every, overwrite};
-ghost use Rattle.measure.specs.Measure.{greatestCorrection, leastCorrection, liesZ, isMeasure, measureFrom, measuresBeside};
+ghost use Rattle.measure.specs.Measure.{greatestLength, greatestCorrection, leastCorrection, liesZ, isMeasure, measureFrom, measuresBeside};
 ghost use Rattle.measure.specs.Tag.{storedValues, isStored, tagFrom, tagOf, lengthIn, storedIn};
 
 const LEAST_LENGTH: u64 = 10000;
@@ -19,6 +19,9 @@ const LEAST_CORRECTION: i32 = -5000;
 const GREATEST_CORRECTION: i32 = 5000;
 
 const GREATEST_STORED: u64 = 10000;
+
+// How much a stored correction is above the correction.
+const STORED_ABOVE: u64 = 5000;
 
 const STORED_VALUES: u64 = 65536;
 
@@ -80,12 +83,21 @@ pub fn stored_in(tag: u64) -> u64
     tag % STORED_VALUES
 }
 
-// A correction as it is stored where there is a length.
-fn raised(correction: i32) -> u64
+// A number and a correction together, which are not below zero.
+pub fn plus(number: u64, correction: i32) -> u64
+    requires { ⌜ (greatestCorrection ≤ number) × (number ≤ greatestLength) ⌝ }
     requires { ⌜ liesZ leastCorrection (pos greatestCorrection) correction ≡ true ⌝ }
-    ensures { λ r. ⌜ r ≡ natAbs (correction +ℤ pos greatestCorrection) ⌝ }
+    ensures { λ r. ⌜ (pos r ≡ pos number +ℤ correction) × (r ≤ number + greatestCorrection) ⌝ }
 {
-    (correction + GREATEST_CORRECTION) as u64
+    (number as i32 + correction) as u64
+}
+
+// How much `a` is above `b`, below zero where it is less.
+pub fn gap(a: u64, b: u64) -> i64
+    requires { ⌜ (a < 2 ^ 63) × (b < 2 ^ 63) ⌝ }
+    ensures { λ r. ⌜ r ≡ pos a -ℤ pos b ⌝ }
+{
+    a as i64 - b as i64
 }
 
 // The tag of a measure.
@@ -96,7 +108,7 @@ pub fn tag_of(length: u64, correction: i32) -> u64
     if length == 0 {
         return UNMEASURED;
     }
-    tag_from(length, raised(correction))
+    tag_from(length, plus(STORED_ABOVE, correction))
 }
 
 // The correction that a length and a stored correction show.
@@ -107,7 +119,7 @@ pub fn correction_from(length: u64, stored: u64) -> i64
     if length == 0 {
         return 0;
     }
-    stored as i64 - GREATEST_CORRECTION as i64
+    gap(stored, STORED_ABOVE)
 }
 
 // Whether lengths and corrections, one of each for a measure, are all measures within the rules.

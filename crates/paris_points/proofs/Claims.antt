@@ -6,15 +6,16 @@ use lib.IntN.{ℤ, pos}
 use Rattle.lists.specs.Lists.{lies}
 use Rattle.lists.proofs.Tests.{lies-when}
 use Rattle.measure.specs.Measure.{Measure, liesZ}
+use Rattle.measure.proofs.Integers.{Unsigned}
 use Rattle.paris_points.specs.Points.{corrected, leastCorrected, greatestCorrected, halfPoints, leastHalfPoints, greatestHalfPoints, rest, leastRest, greatestRest, IsMeasured}
 use Rattle.paris_points.specs.Claims.{Sizes}
 use Rattle.paris_points.proofs.Worked.{sizes-worked}
-use Rattle.paris_points.proofs.Lengths.{Whole, whole}
+use Rattle.paris_points.proofs.Lengths.{corrected-unsigned}
 use Rattle.paris_points.proofs.Sizes.{half-points-is, rest-within, both-determine}
 
 module _ (m : Measure) (known : IsMeasured m) where
-  t : Whole (corrected m)
-  t = whole m known
+  t : Unsigned leastCorrected greatestCorrected (corrected m)
+  t = corrected-unsigned m known
 
   corrected-within : liesZ (pos leastCorrected) (pos greatestCorrected) (corrected m) ≡ true
   unfolding liesZ lies

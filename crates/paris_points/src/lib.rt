@@ -2,21 +2,21 @@
 ghost use mathlib.Core.Path.{_≡_};
 ghost use mathlib.Core.Bool.{true};
 ghost use Prim.Native.Nat.{_*_, _≤_};
-ghost use lib.IntN.{pos, _-ℤ_};
+ghost use lib.IntN.{pos};
 ghost use Rattle.measure.specs.Measure.{liesZ};
-ghost use Rattle.paris_points.specs.Points.{corrected, greatestCorrected, perHundredth, perHalfPoint, rounded, halfPoints, greatestHalfPoints, rest, leastRest, greatestRest, IsMeasured};
+ghost use Rattle.paris_points.specs.Points.{corrected, greatestCorrected, perHundredth, rounded, halfPoints, greatestHalfPoints, rest, leastRest, greatestRest, IsMeasured};
 
 // Thousandths of a half point in a hundredth of a millimetre, and in a half point.
 const PER_HUNDREDTH: u64 = 3;
 
 const PER_HALF_POINT: u64 = 1000;
 
-// The corrected length of a measured last.
+// The corrected length of a measured last: the correction added to the length.
 pub fn corrected(length: u64, correction: i32) -> u64
     requires { ⌜ IsMeasured (record { length = length; correction = correction }) ⌝ }
     ensures { λ r. ⌜ (pos r ≡ corrected (record { length = length; correction = correction })) × (r ≤ greatestCorrected) ⌝ }
 {
-    (length as i32 + correction) as u64
+    measure::plus(length, correction)
 }
 
 // The rule of rounding: so many thousandths as whole half points, a half going up.
@@ -35,18 +35,10 @@ pub fn half_points(t: u64) -> u64
     rounded(PER_HUNDREDTH * t)
 }
 
-// How much `a` is above `b`, below zero where it is less.
-fn gap(a: u64, b: u64) -> i64
-    requires { ⌜ (a ≤ perHalfPoint * greatestHalfPoints) × (b ≤ perHalfPoint * greatestHalfPoints) ⌝ }
-    ensures { λ r. ⌜ r ≡ pos a -ℤ pos b ⌝ }
-{
-    a as i64 - b as i64
-}
-
 // The rest for a corrected length and its size.
 pub fn rest(t: u64, size: u64) -> i64
     requires { ⌜ (t ≤ greatestCorrected) × (size ≤ greatestHalfPoints) × (size ≡ halfPoints (pos t)) ⌝ }
     ensures { λ r. ⌜ (r ≡ rest (pos t)) × (liesZ leastRest greatestRest r ≡ true) ⌝ }
 {
-    gap(PER_HUNDREDTH * t, PER_HALF_POINT * size)
+    measure::gap(PER_HUNDREDTH * t, PER_HALF_POINT * size)
 }

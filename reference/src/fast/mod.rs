@@ -1,6 +1,6 @@
 //! The calls of documents 01 and 02 once more, as fast as plain Rust does them:
-//! the same words, replies and refusals as [`crate::calls`], to measure speed by.
-//! Nothing is kept between calls: each judges the whole table that it is lent,
+//! the same words, replies and refusals as the literal ones, to measure speed by.
+//! Nothing is kept between calls: each that is lent a table judges the whole of it,
 //! but for those that make it anew.
 //!
 //! Only the real priority is served. No recursion; room to work in is taken from

@@ -1,6 +1,6 @@
 -- `btreap::btreap_insert` meets its contract. Assumes nothing.
 use mathlib.Core.Path.{ap, _∙_}
-use Rattle.measure.proofs.Shown.{handed-on}
+use Rattle.measure.proofs.Corrections.{handed-on}
 use Rattle.call_meaning.specs.Calls.{insertReply, insertAfter}
 use borrow.Author.Needs.{needs}
 use Rattle.btreap.proofs.btreap_insert.Statement.{statement}

@@ -2,7 +2,7 @@
 use mathlib.Core.Path.{ap, _∙_}
 use borrow.Author.Needs.{needs}
 use Rattle.measure.specs.Measure.{liesZ}
-use Rattle.measure.proofs.Shown.{handed-on}
+use Rattle.measure.proofs.Corrections.{handed-on}
 use Rattle.paris_points.specs.Points.{leastRest, greatestRest}
 use Rattle.call_points.specs.Pointed.{pointsReply, pointsRest}
 use Rattle.btreap.proofs.btreap_points.Statement.{statement}

@@ -17,8 +17,8 @@ points-given-requires c κs = search needs
 enum-told : tie.Need-enum-told
 enum-told c = search needs
 
-no-size-requires : tie.Need-no-size-requires
-no-size-requires c κs = search needs
+no-points-requires : tie.Need-no-points-requires
+no-points-requires c κs = search needs
 
 enum-known-answer-2 : tie.Need-enum-known-answer-2
 enum-known-answer-2 c = search needs
@@ -26,8 +26,8 @@ enum-known-answer-2 c = search needs
 number-requires : tie.Need-number-requires
 number-requires c κs = search needs
 
-no-size-requires-2 : tie.Need-no-size-requires-2
-no-size-requires-2 c κs = search needs
+no-points-requires-2 : tie.Need-no-points-requires-2
+no-points-requires-2 c κs = search needs
 
 returns : tie.Need-returns
 returns c =
@@ -37,12 +37,12 @@ returns c =
 returns-2 : tie.Need-returns-2
 returns-2 c =
     let same = sym (c .before .enum-told .given .1) in
-    (c .no-size .ensures .0 ∙ ap pointedOf same, c .no-size .ensures .1 ∙ ap restOf same)
+    (c .no-points .ensures .0 ∙ ap pointedOf same, c .no-points .ensures .1 ∙ ap restOf same)
 
 returns-3 : tie.Need-returns-3
 returns-3 c =
     let same = sym (c .before .before .before .answer2 .given .1) in
-    (c .no-size2 .ensures .0 ∙ refused (c .before .number .ensures) ∙ ap pointedOf same, c .no-size2 .ensures .1 ∙ ap restOf same)
+    (c .no-points2 .ensures .0 ∙ refused (c .before .number .ensures) ∙ ap pointedOf same, c .no-points2 .ensures .1 ∙ ap restOf same)
 
 pub pointed-spec : {M : Type 1} → statement M
 pointed-spec =
@@ -51,10 +51,10 @@ pointed-spec =
     enum-known-answer
     points-given-requires
     enum-told
-    no-size-requires
+    no-points-requires
     enum-known-answer-2
     number-requires
-    no-size-requires-2
+    no-points-requires-2
     returns
     returns-2
     returns-3)

@@ -9,7 +9,7 @@ use mir.Val.{toZ, ofZ}
 use borrow.Author.Tests.{not-true, not-false}
 use Rattle.measure.specs.Measure.{Measure, isMeasure}
 use Rattle.measure.specs.Tag.{tagOf, measureAt, isTag}
-use Rattle.measure.proofs.Shown.{handed-on}
+use Rattle.measure.proofs.Corrections.{handed-on}
 use Rattle.measure.proofs.Tags.{measure-of-tag, measure-tags}
 use Rattle.table_limits.proofs.Lengths.{slots-for-some}
 use Rattle.call_meaning.specs.Calls.{insertReply, insertAfter}

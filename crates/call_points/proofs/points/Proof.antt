@@ -8,7 +8,7 @@ use mir.Syntax.{w32, w64}
 use mir.Val.{toZ, ofZ}
 use mir.ValLaws.{toZ-ofZ}
 use Rattle.measure.specs.Measure.{Measure, isMeasure, liesZ}
-use Rattle.measure.proofs.Shown.{handed-on}
+use Rattle.measure.proofs.Corrections.{handed-on}
 use Rattle.paris_points.specs.Points.{corrected, leastRest, greatestRest}
 use Rattle.call_points.proofs.Answering.{refused, not-measured, sized}
 use Rattle.call_points.proofs.points.Statement.{statement}

@@ -10,9 +10,9 @@ use borrow.Author.Needs.{needs}
 use borrow.Author.Tests.{not-true, not-false}
 use mir.Syntax.{w32}
 use mir.Val.{SFits}
-use mir.ValLaws.{toZ-ofZ}
 use Rattle.lists.specs.Lists.{every}
 use Rattle.measure.specs.Measure.{Measure, isMeasure, measuresBeside}
+use Rattle.measure.proofs.Corrections.{handed-on}
 use Rattle.measure.proofs.Beside.{entry, beside-next, beside-end}
 use Rattle.measure.proofs.are_measures.Statement.{statement}
 use Rattle.measure.proofs.are_measures.Tie as tie
@@ -70,7 +70,7 @@ module _ (c : tie.After-is-measure Inv-loop μ-loop) where
 
   told : (t : Bool) → c .is-measure .result ≡ t → isMeasure (entry lengths corrections at) ≡ t
   told t e =
-      ap (λ (z : ℤ). isMeasure (record { length = getD lengths at 0; correction = z })) (sym (toZ-ofZ w32 (getD corrections at (pos 0)) fits))
+      ap isMeasure (sym (handed-on (getD lengths at 0) (getD corrections at (pos 0)) fits))
       ∙ sym (c .is-measure .ensures)
       ∙ e
 

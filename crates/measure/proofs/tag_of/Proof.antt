@@ -2,7 +2,8 @@
 use mathlib.Core.Bool.{false}
 use mathlib.Core.Path.{_≡_, sym, ap, _∙_}
 use lib.Dec.{eqb}
-use lib.IntN.{ℤ, pos, natAbs, _+ℤ_}
+use lib.IntN.{ℤ, pos, natAbs, _+ℤ_, +ℤ-comm}
+use borrow.Author.Needs.{needs}
 use borrow.Author.Tests.{ne-eqb}
 use mir.Syntax.{w32}
 use mir.Val.{toZ, ofZ}
@@ -23,17 +24,20 @@ same c = toZ-ofZ w32 (c .args .correction) (c .fits .correction)
 some : (c : tie.Else1) → eqb (c .before .args .length) 0 ≡ false
 some c = ne-eqb (c .before .args .length) 0 (c .if1 .left)
 
-stored : (c : tie.After-raised) → c .raised .result ≡ storedCorrection (measure (c .before .before))
+stored : (c : tie.After-plus) → c .plus .result ≡ storedCorrection (measure (c .before .before))
 stored c =
     let start = c .before .before in
-    c .raised .ensures ∙ ap (λ (z : ℤ). natAbs (z +ℤ pos greatestCorrection)) (same start) ∙ sym (stored-raised (measure start) (some (c .before)))
+    ap natAbs (c .plus .ensures .0 ∙ ap (λ (z : ℤ). pos greatestCorrection +ℤ z) (same start) ∙ +ℤ-comm (pos greatestCorrection) (start .args .correction))
+    ∙ sym (stored-raised (measure start) (some (c .before)))
 
 returns : tie.Need-returns
 returns c = sym (ap tagOf (length-zero (measure (c .before)) (c .before .pre) (c .if1 .taken)) ∙ unmeasured-tag)
 
-raised-requires : tie.Need-raised-requires
-raised-requires c κs =
-    ap (liesZ leastCorrection (pos greatestCorrection)) (same (c .before)) ∙ measured (measure (c .before)) (some c) (c .before .pre) .1
+plus-requires : tie.Need-plus-requires
+plus-requires c κs = (
+  search needs,
+  ap (liesZ leastCorrection (pos greatestCorrection)) (same (c .before)) ∙ measured (measure (c .before)) (some c) (c .before .pre) .1,
+)
 
 tag-from-requires : tie.Need-tag-from-requires
 tag-from-requires c κs =
@@ -47,4 +51,4 @@ returns-2 c =
     c .tag-from .ensures ∙ ap (tagFrom (start .args .length)) (stored (c .before))
 
 pub tag-of-spec : {M : Type 1} → statement M
-tag-of-spec = tie.close (tie.spec returns raised-requires tag-from-requires returns-2)
+tag-of-spec = tie.close (tie.spec returns plus-requires tag-from-requires returns-2)

@@ -1,10 +1,9 @@
 -- `paris_points::half_points` meets its contract. Assumes nothing.
 use mathlib.Core.Path.{_∙_}
-use Prim.Native.Nat.{_*_}
 use native.Mathlib.Omega.{arith}
 use borrow.Author.Needs.{needs}
-use Rattle.paris_points.specs.Points.{perHundredth, halfPoints}
-use Rattle.paris_points.proofs.Sizes.{rounded-is}
+use Rattle.paris_points.specs.Points.{halfPoints}
+use Rattle.paris_points.proofs.Sizes.{half-points-is}
 use Rattle.paris_points.proofs.half_points.Statement.{statement}
 use Rattle.paris_points.proofs.half_points.Tie as tie
 
@@ -17,7 +16,7 @@ rounded-requires c κs = search needs
 returns : tie.Need-returns
 unfolding halfPoints
 returns c =
-    let size = c .rounded .ensures ∙ rounded-is (perHundredth * c .before .args .t) in
+    let size = c .rounded .ensures ∙ half-points-is (c .before .args .t) in
     (c .rounded .ensures, omega (arith, c .before .pre))
 
 pub half-points-spec : {M : Type 1} → statement M

@@ -4,7 +4,7 @@ use Prim.Native.Nat.{ℕ, _+_}
 use native.Mathlib.Omega.{arith}
 use lib.ListN.{getD}
 use Rattle.measure.specs.Measure.{measureFrom}
-use Rattle.measure.proofs.Shown.{correction-back}
+use Rattle.measure.proofs.Corrections.{correction-back}
 use Rattle.table.specs.Layout.{lengthField, correctionField, slotStart}
 use Rattle.table_entries.proofs.Fields.{stored-small}
 use Rattle.table_descend.proofs.Standings.{standing-is}

@@ -1,14 +1,13 @@
--- `paris_points::gap` meets its contract. Assumes nothing.
+-- `measure::gap` meets its contract. Assumes nothing.
 use mathlib.Core.Path.{_≡_, sym, ap₂, _∙_, subst}
 use lib.IntN.{subℕ, _-ℤ_}
 use borrow.Author.Needs.{needs}
 use mir.Syntax.{w64}
 use mir.Val.{SFits, toZ}
 use mir.ValLaws.{toZ-pos}
-use Rattle.measure.proofs.Integers.{mag-below, reads-back}
-use Rattle.paris_points.proofs.Differences.{difference}
-use Rattle.paris_points.proofs.gap.Statement.{statement}
-use Rattle.paris_points.proofs.gap.Tie as tie
+use Rattle.measure.proofs.Integers.{difference, mag-below, reads-back}
+use Rattle.measure.proofs.gap.Statement.{statement}
+use Rattle.measure.proofs.gap.Tie as tie
 
 -- the difference, which fits
 module _ (c : tie.Start) where
