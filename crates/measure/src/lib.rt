@@ -3,7 +3,7 @@
 ghost use mathlib.Core.Path.{_≡_};
 ghost use mathlib.Core.Bool.{true};
 ghost use mathlib.Core.List.{map};
-ghost use Prim.Native.Nat.{_+_, _^_, _≤_, _<_};
+ghost use Prim.Native.Nat.{_^_, _≤_, _<_};
 ghost use lib.ListN.{length};
 ghost use lib.IntN.{pos, _+ℤ_, _-ℤ_};
 ghost use Rattle.lists.specs.Lists.{every, overwrite};
@@ -87,7 +87,7 @@ pub fn stored_in(tag: u64) -> u64
 pub fn plus(number: u64, correction: i32) -> u64
     requires { ⌜ (greatestCorrection ≤ number) × (number ≤ greatestLength) ⌝ }
     requires { ⌜ liesZ leastCorrection (pos greatestCorrection) correction ≡ true ⌝ }
-    ensures { λ r. ⌜ (pos r ≡ pos number +ℤ correction) × (r ≤ number + greatestCorrection) ⌝ }
+    ensures { λ r. ⌜ pos r ≡ pos number +ℤ correction ⌝ }
 {
     (number as i32 + correction) as u64
 }

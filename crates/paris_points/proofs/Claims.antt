@@ -7,8 +7,8 @@ use Rattle.lists.specs.Lists.{lies}
 use Rattle.lists.proofs.Tests.{lies-when}
 use Rattle.measure.specs.Measure.{Measure, liesZ}
 use Rattle.measure.proofs.Integers.{Unsigned}
-use Rattle.paris_points.specs.Points.{corrected, leastCorrected, greatestCorrected, halfPoints, leastHalfPoints, greatestHalfPoints, rest, leastRest, greatestRest, IsMeasured}
-use Rattle.paris_points.specs.Claims.{Sizes}
+use Rattle.paris_points.specs.Points.{corrected, leastCorrected, greatestCorrected, halfPoints, rest, leastRest, greatestRest, IsMeasured}
+use Rattle.paris_points.specs.Claims.{leastHalfPoints, greatestHalfPoints, Sizes}
 use Rattle.paris_points.proofs.Worked.{sizes-worked}
 use Rattle.paris_points.proofs.Lengths.{corrected-unsigned}
 use Rattle.paris_points.proofs.Sizes.{half-points-is, rest-within, both-determine}

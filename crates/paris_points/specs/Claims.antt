@@ -3,10 +3,11 @@ use mathlib.Core.Bool.{true}
 use mathlib.Core.List.{List, [], _∷_, map}
 use mathlib.Core.Option.{Option, none, some}
 use mathlib.Core.Path.{_≡_}
+use Prim.Native.Nat.{ℕ}
 use lib.IntN.{ℤ, pos, negℤ}
 use Rattle.lists.specs.Lists.{lies}
 use Rattle.measure.specs.Measure.{Measure, unmeasured, liesZ}
-use Rattle.paris_points.specs.Points.{corrected, leastCorrected, greatestCorrected, halfPoints, leastHalfPoints, greatestHalfPoints, rest, leastRest, greatestRest, Size, sizeOf, IsMeasured}
+use Rattle.paris_points.specs.Points.{corrected, leastCorrected, greatestCorrected, halfPoints, rest, leastRest, greatestRest, Size, sizeOf, IsMeasured}
 
 -- "A t of 26,500 gives 80 half points, rest −500", without a correction and with one. One of 26,833 has the same size and the greatest rest; then
 -- come the least and the greatest size. "An unmeasured last has no size and no rest."
@@ -29,6 +30,13 @@ sizes =
     ∷ some (record { halfPoints = 135; rest = pos 0 })
     ∷ none
     ∷ []
+
+-- The sizes of measured lasts: 3 · 5,000 thousandths are 15 half points, 3 · 45,000 are 135.
+abbrev pub leastHalfPoints : ℕ
+leastHalfPoints = 15
+
+abbrev pub greatestHalfPoints : ℕ
+greatestHalfPoints = 135
 
 -- The size is the same, and the rest too.
 abbrev pub SameSize : ℤ → ℤ → Type 0

@@ -41,13 +41,6 @@ rounded thousandths =
 unfoldable pub halfPoints : ℤ → ℕ
 halfPoints t = rounded (perHundredth * natAbs t)
 
--- The sizes of measured lasts (`Claims.Sizes.size-lies`): 3 · 5,000 thousandths are 15 half points, 3 · 45,000 are 135.
-abbrev pub leastHalfPoints : ℕ
-leastHalfPoints = 15
-
-abbrev pub greatestHalfPoints : ℕ
-greatestHalfPoints = 135
-
 -- "The signed rest, 3·t less 1,000 times the rounded size".
 unfoldable pub rest : ℤ → ℤ
 rest t = pos perHundredth *ℤ t -ℤ pos perHalfPoint *ℤ pos (halfPoints t)

@@ -4,7 +4,7 @@ ghost use mathlib.Core.Bool.{true};
 ghost use Prim.Native.Nat.{_*_, _≤_};
 ghost use lib.IntN.{pos};
 ghost use Rattle.measure.specs.Measure.{liesZ};
-ghost use Rattle.paris_points.specs.Points.{corrected, greatestCorrected, perHundredth, rounded, halfPoints, greatestHalfPoints, rest, leastRest, greatestRest, IsMeasured};
+ghost use Rattle.paris_points.specs.Points.{corrected, greatestCorrected, perHundredth, rounded, halfPoints, rest, leastRest, greatestRest, IsMeasured};
 
 // Thousandths of a half point in a hundredth of a millimetre, and in a half point.
 const PER_HUNDREDTH: u64 = 3;
@@ -30,14 +30,14 @@ fn rounded(thousandths: u64) -> u64
 // The size for a corrected length.
 pub fn half_points(t: u64) -> u64
     requires { ⌜ t ≤ greatestCorrected ⌝ }
-    ensures { λ r. ⌜ (r ≡ halfPoints (pos t)) × (r ≤ greatestHalfPoints) ⌝ }
+    ensures { λ r. ⌜ r ≡ halfPoints (pos t) ⌝ }
 {
     rounded(PER_HUNDREDTH * t)
 }
 
 // The rest for a corrected length and its size.
 pub fn rest(t: u64, size: u64) -> i64
-    requires { ⌜ (t ≤ greatestCorrected) × (size ≤ greatestHalfPoints) × (size ≡ halfPoints (pos t)) ⌝ }
+    requires { ⌜ (t ≤ greatestCorrected) × (size ≡ halfPoints (pos t)) ⌝ }
     ensures { λ r. ⌜ (r ≡ rest (pos t)) × (liesZ leastRest greatestRest r ≡ true) ⌝ }
 {
     measure::gap(PER_HUNDREDTH * t, PER_HALF_POINT * size)

@@ -73,7 +73,7 @@ returns-3 c =
     (c .before .half-points .result)
     (toZ w64 (ofZ w64 (c .rest .result)))
     (is c)
-    (c .before .half-points .ensures .0)
+    (c .before .half-points .ensures)
     (back c ∙ c .rest .ensures .0)
     (ap (liesZ leastRest greatestRest) (back c) ∙ c .rest .ensures .1)
 

@@ -1,6 +1,6 @@
 -- `measure::plus` meets its contract. Assumes nothing.
-use mathlib.Core.Path.{_≡_, sym, ap₂, subst, _∙_}
-use Prim.Native.Nat.{ℕ, _+_, _-_, _≤_}
+use mathlib.Core.Path.{_≡_, sym, ap, ap₂, subst, _∙_}
+use Prim.Native.Nat.{ℕ, _+_, _-_}
 use native.Mathlib.Omega.{arith}
 use borrow.Author.Needs.{needs}
 use lib.Dec.{T}
@@ -42,9 +42,7 @@ cast-result-2 c =
     subst (λ (y : ℤ). T (nonNeg y) × Fits w64 (natAbs y)) (sym (again c)) (tt, record { fits = omega (arith, known c .most, c .pre .0) })
 
 returns : tie.Need-returns
-returns c =
-    subst (λ (y : ℤ). (pos (natAbs y) ≡ pos (number c) +ℤ c .args .correction) × (natAbs y ≤ number c + greatestCorrection)) (sym (again c))
-    (sym (known c .is), known c .most)
+returns c = ap (λ (y : ℤ). pos (natAbs y)) (again c) ∙ sym (known c .is)
 
 pub plus-spec : {M : Type 1} → statement M
 plus-spec = tie.close (tie.spec cast-result add-result cast-result-2 returns)

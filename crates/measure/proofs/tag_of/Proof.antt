@@ -27,7 +27,7 @@ some c = ne-eqb (c .before .args .length) 0 (c .if1 .left)
 stored : (c : tie.After-plus) → c .plus .result ≡ storedCorrection (measure (c .before .before))
 stored c =
     let start = c .before .before in
-    ap natAbs (c .plus .ensures .0 ∙ ap (λ (z : ℤ). pos greatestCorrection +ℤ z) (same start) ∙ +ℤ-comm (pos greatestCorrection) (start .args .correction))
+    ap natAbs (c .plus .ensures ∙ ap (λ (z : ℤ). pos greatestCorrection +ℤ z) (same start) ∙ +ℤ-comm (pos greatestCorrection) (start .args .correction))
     ∙ sym (stored-raised (measure start) (some (c .before)))
 
 returns : tie.Need-returns

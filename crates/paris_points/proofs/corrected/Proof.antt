@@ -4,10 +4,10 @@ use native.Mathlib.Omega.{arith}
 use mir.Syntax.{w32}
 use mir.Val.{toZ, ofZ}
 use mir.ValLaws.{toZ-ofZ}
-use lib.IntN.{ℤ, pos, _+ℤ_}
+use lib.IntN.{ℤ, pos, natAbs, _+ℤ_}
 use Rattle.measure.specs.Measure.{Measure, leastCorrection, greatestCorrection, liesZ}
 use Rattle.paris_points.specs.Points.{corrected}
-use Rattle.paris_points.proofs.Lengths.{length-within, correction-near}
+use Rattle.paris_points.proofs.Lengths.{length-within, correction-near, corrected-unsigned}
 use Rattle.paris_points.proofs.corrected.Statement.{statement}
 use Rattle.paris_points.proofs.corrected.Tie as tie
 
@@ -30,8 +30,10 @@ returns : tie.Need-returns
 unfolding corrected
 returns c =
     let start = c .before in
-    let within = length-within (last start) (start .pre) in
-    (c .plus .ensures .0 ∙ ap (λ (z : ℤ). pos (start .args .length) +ℤ z) (same start), omega (arith, c .plus .ensures .1))
+    let t = corrected-unsigned (last start) (start .pre) in
+    let is = c .plus .ensures ∙ ap (λ (z : ℤ). pos (start .args .length) +ℤ z) (same start) in
+    let value : c .plus .result ≡ t .value = ap natAbs (is ∙ t .is) in
+    (is, omega (arith, t .most))
 
 pub corrected-spec : {M : Type 1} → statement M
 corrected-spec = tie.close (tie.spec plus-requires returns)

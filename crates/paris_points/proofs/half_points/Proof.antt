@@ -1,9 +1,6 @@
 -- `paris_points::half_points` meets its contract. Assumes nothing.
-use mathlib.Core.Path.{_∙_}
-use native.Mathlib.Omega.{arith}
 use borrow.Author.Needs.{needs}
 use Rattle.paris_points.specs.Points.{halfPoints}
-use Rattle.paris_points.proofs.Sizes.{half-points-is}
 use Rattle.paris_points.proofs.half_points.Statement.{statement}
 use Rattle.paris_points.proofs.half_points.Tie as tie
 
@@ -15,9 +12,7 @@ rounded-requires c κs = search needs
 
 returns : tie.Need-returns
 unfolding halfPoints
-returns c =
-    let size = c .rounded .ensures ∙ half-points-is (c .before .args .t) in
-    (c .rounded .ensures, omega (arith, c .before .pre))
+returns c = c .rounded .ensures
 
 pub half-points-spec : {M : Type 1} → statement M
 half-points-spec = tie.close (tie.spec mul-rounded rounded-requires returns)
