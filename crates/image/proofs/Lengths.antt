@@ -10,7 +10,7 @@ use lib.ListN.{length, length-append, length-map}
 use Rattle.lists.specs.Lists.{All, Rising, keep, nonzero}
 use Rattle.lists.proofs.Tests.{by-test, lies-says}
 use Rattle.lists.proofs.Keep.{all-always, all-append, length-keep}
-use Rattle.lists.proofs.FlatMap.{all-flatMap}
+use Rattle.lists.proofs.FlatMap.{all-flatMap, length-flatMap-headed}
 use Rattle.lists.proofs.Sorting.{sortBy-permutes}
 use Rattle.lists.proofs.Occurrences.{kept-permuted}
 use Rattle.measure.specs.Measure.{Measure, storedCorrection}
@@ -25,7 +25,7 @@ use Rattle.table.specs.Contents.{Entry, Contents, Valid, tableOrder, entryKeys,
 use Rattle.table.proofs.Entries.{found-self}
 use Rattle.image.specs.Layout.{blockBytes, recordBytes, imageBytes, mostBytes, IsByte}
 use Rattle.image.specs.Image.{imageOf, measuredIn}
-use Rattle.image.proofs.PartLengths.{nodes-length, parts-length}
+use Rattle.image.proofs.PartLengths.{nodes-length}
 use Rattle.image.proofs.Records.{header-length, block-length, node-length, header-bytes, block-bytes, node-bytes}
 
 -- "The order α is 3 to 255."
@@ -110,7 +110,7 @@ module _ {most : ℕ} (c : Contents) (valid : Valid most c) where
         arith,
         length-append (headerRecord (c .order) (length (keysIn c)) (length bs) (top priorityOf (keysIn c))) (flatMap (blockPart (c .order) priorityOf m (keysIn c)) bs),
         header-length (c .order) (length (keysIn c)) (length bs) (top priorityOf (keysIn c)),
-        parts-length node (blockPart (c .order) priorityOf m (keysIn c)) (λ b. b .held) (blockPart-length (c .order) priorityOf m (keysIn c)) bs,
+        length-flatMap-headed node blockBytes (blockPart (c .order) priorityOf m (keysIn c)) (λ b. b .held) (blockPart-length (c .order) priorityOf m (keysIn c)) bs,
         nodes-length node (λ k. m k .length) (nodeOf-length (c .order) priorityOf m (keysIn c)) (flatMap (λ b. b .held) bs),
         measured-held,
         held-total (c .order) priorityOf wide (keysIn c) (valid .keys-rise),

@@ -10,9 +10,10 @@ use Rattle.lists.proofs.Keep.{length-keep}
 use Rattle.lists.proofs.Parts.{overwrite-next}
 use Rattle.measure.specs.Tag.{lengthIn}
 use Rattle.treap.specs.Image.{headerRecord}
+use Rattle.lists.proofs.FlatMap.{length-flatMap-headed}
 use Rattle.image.specs.Layout.{headerBytes, blockBytes, nodeBytes, measureBytes}
 use Rattle.table_encode.specs.Encode.{Columns, keyAt}
-use Rattle.image.proofs.PartLengths.{nodes-length, parts-length}
+use Rattle.image.proofs.PartLengths.{nodes-length}
 use Rattle.image.proofs.Records.{header-length}
 use Rattle.image_blocks.specs.Naming.{sameWeight}
 use Rattle.image_parts.specs.Parts.{nodeAt, measuredAt, blockAt, blocksAt, imageAt}
@@ -59,7 +60,7 @@ module _ (order : ℕ) (keys tags : List ℕ) (root : ℕ) (c : Columns) (weight
   blocks-length =
       omega (
         arith,
-        parts-length node (blockAt keys tags root c) (λ r. r) (block-at-length keys tags root c) (runs (sameWeight weights) sorted),
+        length-flatMap-headed node blockBytes (blockAt keys tags root c) (λ r. r) (block-at-length keys tags root c) (runs (sameWeight weights) sorted),
         ap (λ (xs : List ℕ). length (flatMap node xs)) (runs-whole (sameWeight weights) sorted),
         nodes-length node (λ i. lengthIn (getD tags i 0)) (node-at-length keys tags (c .left) (c .right) (c .rank) (c .count)) sorted,
       )

@@ -3,7 +3,8 @@ use mathlib.Core.Bool.{Bool, true, false, cond, _||_, _&&_}
 use mathlib.Core.List.{List, [], _∷_, _++_, map, flatMap, append-nil, append-assoc}
 use mathlib.Core.Logic.{_⊎_, _≢_, inl, inr, ⊎-elim}
 use mathlib.Core.Path.{_≡_, refl, sym, ap, ap₂, _∙_, subst}
-use Prim.Native.Nat.{ℕ, zero, suc, _+_, _<_, _≤_}
+use Prim.Native.Nat.{ℕ, zero, suc, _+_, _*_, _<_, _≤_}
+use native.Mathlib.Nat.{mul-zero, mul-suc}
 use native.Mathlib.Omega.{arith}
 use lib.Dec.{eqb}
 use lib.ListN.{length, length-append}
@@ -60,6 +61,29 @@ pub length-flatMap-some : {A B : Type 0} (g : A → List B) (vs : List A) → Al
 unfolding flatMap
 length-flatMap-some g [] h = omega arith
 length-flatMap-some g (a ∷ vs) h = omega (arith, length-flatMap-some g vs (h .1), h .0, length-append (g a) (flatMap g vs))
+
+-- where all parts are equally long
+pub length-flatMap-each : {A B : Type 0} (g : A → List B) (n : ℕ) → ((a : A) → length (g a) ≡ n) → (vs : List A) → length (flatMap g vs) ≡ n * length vs
+unfolding flatMap
+length-flatMap-each g n each [] = sym (mul-zero n)
+length-flatMap-each g n each (a ∷ vs) =
+    length-append (g a) (flatMap g vs) ∙ omega (arith, each a, length-flatMap-each g n each vs, mul-suc n (length vs))
+
+-- where each part has a head of so many, and the parts of what it holds
+pub length-flatMap-headed : {A B C : Type 0} (g : A → List C) (head : ℕ) (part : B → List C) (held : B → List A)
+    → ((b : B) → length (part b) ≡ head + length (flatMap g (held b))) → (bs : List B) → length (flatMap part bs) ≡ head * length bs + length (flatMap g (flatMap held bs))
+unfolding flatMap
+length-flatMap-headed g head part held sized [] = omega (arith, mul-zero head)
+length-flatMap-headed g head part held sized (b ∷ bs) =
+    omega (
+      arith,
+      ap length (flatMap-append g (held b) (flatMap held bs)),
+      length-append (flatMap g (held b)) (flatMap g (flatMap held bs)),
+      length-append (part b) (flatMap part bs),
+      sized b,
+      length-flatMap-headed g head part held sized bs,
+      mul-suc head (length bs),
+    )
 
 -- a part is no longer than all of them
 pub length-flatMap-part : {A B : Type 0} (g : A → List B) (vs : List A) → All (λ a. length (g a) ≤ length (flatMap g vs)) vs

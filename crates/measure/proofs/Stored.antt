@@ -36,7 +36,7 @@ module _ (l s : ℕ) where
   unfolding isStored
   none-stored e h = eqb-true s 0 (rw e at h)
 
-  some-stored : eqb l 0 ≡ false → isStored l s ≡ true → (lies leastLength greatestLength l ≡ true) × (s ≤ greatestStored)
+  pub some-stored : eqb l 0 ≡ false → isStored l s ≡ true → (lies leastLength greatestLength l ≡ true) × (s ≤ greatestStored)
   unfolding isStored
   some-stored e h =
       let length = lies leastLength greatestLength l in

@@ -21,7 +21,7 @@ const GREATEST_CORRECTION: i32 = 5000;
 const GREATEST_STORED: u64 = 10000;
 
 // How much a stored correction is above the correction.
-const STORED_ABOVE: u64 = 5000;
+pub const STORED_ABOVE: u64 = 5000;
 
 const STORED_VALUES: u64 = 65536;
 

@@ -1,10 +1,13 @@
 // The size of a last in Paris points: whole half points, and the signed rest. All functions are internal to this library's crates.
 ghost use mathlib.Core.Path.{_≡_};
 ghost use mathlib.Core.Bool.{true};
+ghost use mathlib.Core.Logic.{_≢_};
 ghost use Prim.Native.Nat.{_*_, _≤_};
 ghost use lib.IntN.{pos};
 ghost use Rattle.measure.specs.Measure.{liesZ};
+ghost use Rattle.measure.specs.Tag.{lengthIn, measureAt, isTag};
 ghost use Rattle.paris_points.specs.Points.{corrected, greatestCorrected, perHundredth, rounded, halfPoints, rest, leastRest, greatestRest, IsMeasured};
+use measure::STORED_ABOVE;
 
 // Thousandths of a half point in a hundredth of a millimetre, and in a half point.
 const PER_HUNDREDTH: u64 = 3;
@@ -33,6 +36,15 @@ pub fn half_points(t: u64) -> u64
     ensures { λ r. ⌜ r ≡ halfPoints (pos t) ⌝ }
 {
     rounded(PER_HUNDREDTH * t)
+}
+
+// The size of the measured last that has a tag.
+pub fn half_points_in(tag: u64) -> u64
+    requires { ⌜ (isTag tag ≡ true) × (lengthIn tag ≢ 0) ⌝ }
+    ensures { λ r. ⌜ r ≡ halfPoints (corrected (measureAt tag)) ⌝ }
+{
+    let raised = measure::length_in(tag) + measure::stored_in(tag);
+    half_points(raised - STORED_ABOVE)
 }
 
 // The rest for a corrected length and its size.

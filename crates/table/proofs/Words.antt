@@ -10,6 +10,7 @@ use lib.ListN.{length, getD, take, drop, replicate, length-append, length-replic
 use lib.Seq.{take-at, drop-append-add, getD-take, getD-drop}
 use borrow.Author.Tests.{eqb-true, ne-eqb}
 use Rattle.lists.specs.Lists.{nonzero, keep, upFrom, sortBy}
+use Rattle.lists.proofs.FlatMap.{length-flatMap-each}
 use Rattle.lists.proofs.Tests.{by-test}
 use Rattle.lists.proofs.UpFrom.{mapped-upFrom-all}
 use Rattle.measure.specs.Measure.{isMeasure, storedCorrection, measureFrom}
@@ -46,12 +47,6 @@ slot-measure : (c : Contents) (k : ℕ) → k ≢ 0
 unfolding slotOf
 slot-measure c k some = rw (ne-eqb k 0 some) (refl, refl)
 
-slots-length : (c : Contents) (ks : List ℕ) → length (flatMap (slotOf c) ks) ≡ slotWords * length ks
-unfolding flatMap
-slots-length c [] = refl
-slots-length c (k ∷ ks) =
-    length-append (slotOf c k) (flatMap (slotOf c) ks) ∙ omega (arith, slot-length c k, slots-length c ks)
-
 slot-in-slots : (c : Contents) (ks : List ℕ) (s : ℕ) → s < length ks
     → take slotWords (drop (slotWords * s) (flatMap (slotOf c) ks)) ≡ slotOf c (getD ks s 0)
 unfolding flatMap
@@ -77,7 +72,7 @@ pub fresh-length : (many : ℕ) (c : Contents) → length (fresh many c) ≡ tab
 unfolding fresh header
 fresh-length many c =
     length-append (header c) (flatMap (slotOf c) (placedKeys many c))
-    ∙ omega (arith, slots-length c (placedKeys many c), placed-length many c)
+    ∙ omega (arith, length-flatMap-each (slotOf c) slotWords (slot-length c) (placedKeys many c), placed-length many c)
 
 module _ (many : ℕ) (c : Contents) where
   pub fresh-order : getD (fresh many c) orderWord 0 ≡ c .order

@@ -8,7 +8,7 @@ use lib.ListN.{length, getD, set, take, length-append, drop-of-length-le}
 use lib.Seq.{take-suc, take-length, length-take-le}
 use Rattle.lists.specs.Lists.{overwrite}
 use Rattle.lists.proofs.Tests.{by-test}
-use Rattle.lists.proofs.FlatMap.{flatMap-append}
+use Rattle.lists.proofs.FlatMap.{flatMap-append, length-flatMap-each}
 use Rattle.lists.proofs.Overwrite.{overwrite-none, overwrite-length}
 use Rattle.lists.proofs.Parts.{overwrite-next}
 use Rattle.table.specs.Layout.{headerWords, slotWords, slotStart, tableWords}
@@ -19,9 +19,7 @@ unfolding slotAt
 slot-length keys tags c i = by-test (eqb i 0) (λ e. rw e) (λ e. rw e)
 
 pub slots-length : (keys tags : List ℕ) (c : Columns) (xs : List ℕ) → length (flatMap (slotAt keys tags c) xs) ≡ slotWords * length xs
-unfolding flatMap
-slots-length keys tags c [] = refl
-slots-length keys tags c (x ∷ xs) = length-append (slotAt keys tags c x) (flatMap (slotAt keys tags c) xs) ∙ omega (arith, slot-length keys tags c x, slots-length keys tags c xs)
+slots-length keys tags c = length-flatMap-each (slotAt keys tags c) slotWords (slot-length keys tags c)
 
 -- The table once the first so many slots are written over what it held at the start.
 pub record Emitted (keys tags : List ℕ) (c : Columns) (slots start table : List ℕ) (s : ℕ) : Type 0 where

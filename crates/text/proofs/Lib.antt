@@ -1,6 +1,7 @@
--- Laws of digits, and of text written piece by piece.
+-- Laws of digits and columns, and of text written piece by piece.
 pub mod Examples
 pub mod Decimal
 pub mod Spelling
+pub mod Columns
 pub mod Pieces
 pub mod Ongoing

@@ -41,3 +41,14 @@ module _ {before : List ℕ} {at : ℕ} {whole output : List ℕ} {to : ℕ} (fi
           split = append-assoc (state .done) piece rest ∙ state .split;
           written = written-then (state .written) next reach;
         }
+
+  -- the last piece
+  module _ (piece : List ℕ) (state : Ongoing before at whole piece output to) where
+    with-none : Ongoing before at whole (piece ++ []) output to
+    with-none = subst (λ (rest : List ℕ). Ongoing before at whole rest output to) (sym (append-nil piece)) state
+
+    pub last-fits : to + length piece ≤ length output
+    last-fits = ongoing-fits piece [] with-none
+
+    pub ongoing-last : {last : List ℕ} {stop : ℕ} → Written output to piece last stop → Written before at whole last stop
+    ongoing-last next = ongoing-all (ongoing-next piece [] with-none next)

@@ -1,14 +1,17 @@
-// Writing text into a lent output at an index: bytes, and numbers in base ten or as sixteen hexadecimal digits. Each function
+// Writing text into a lent output at an index: bytes, spaces, and numbers in base ten or as sixteen hexadecimal digits. Each function
 // answers the index after what it wrote. Internal to this library's crates: their outputs have room for it.
 ghost use mathlib.Core.Path.{_≡_};
 ghost use Prim.Native.Nat.{_+_, _<_, _≤_};
 ghost use lib.ListN.{length};
 ghost use Rattle.text.specs.Digits.{digits, decimal, hexadecimal};
 ghost use Rattle.text.specs.Digits.{digit as Digits·digit};
+ghost use Rattle.text.specs.Columns.{spaces};
 ghost use Rattle.text.specs.Written.{Written};
 
 // How many digits a key has.
 pub const HEXADECIMAL_DIGITS: usize = 16;
+
+const SPACE: u8 = 32;
 
 // The character of a digit below sixteen, letters capital.
 fn digit(d: u64) -> u8
@@ -18,8 +21,8 @@ fn digit(d: u64) -> u8
     if d < 10 { 48 + d as u8 } else { 55 + d as u8 }
 }
 
-// Write the last `many` digits of a number in a base, the highest first.
-fn put_digits(output: &mut [u8], at: usize, base: u64, many: usize, n: u64) -> usize
+// Write the last `many` digits of a number in a base, the highest first. Internal.
+pub fn put_digits(output: &mut [u8], at: usize, base: u64, many: usize, n: u64) -> usize
     requires { ⌜ (0 < base) × (base ≤ 16) × (at + many ≤ length (now output)) ⌝ }
     ensures { λ r. ⌜ Written (now (output .entry)) at (digits base many n) (now (output .exit)) r ⌝ }
 {
@@ -60,6 +63,17 @@ pub fn put_hexadecimal(output: &mut [u8], at: usize, n: u64) -> usize
     ensures { λ r. ⌜ Written (now (output .entry)) at (hexadecimal n) (now (output .exit)) r ⌝ }
 {
     put_digits(output, at, 16, HEXADECIMAL_DIGITS, n)
+}
+
+// Write so many spaces. Internal.
+pub fn put_spaces(output: &mut [u8], at: usize, many: usize) -> usize
+    requires { ⌜ at + many ≤ length (now output) ⌝ }
+    ensures { λ r. ⌜ Written (now (output .entry)) at (spaces many) (now (output .exit)) r ⌝ }
+{
+    for i in 0..many {
+        output[at + i] = SPACE;
+    }
+    at + many
 }
 
 // Write bytes as they are. Internal.

@@ -24,8 +24,8 @@ fn put_number(output: &mut [u8], at: usize, label: &[u8], n: u64) -> usize
     text::put_decimal(output, end, n)
 }
 
-// Write a label and a key.
-fn put_key(output: &mut [u8], at: usize, label: &[u8], key: u64) -> usize
+// Write a label and a key. Internal.
+pub fn put_key(output: &mut [u8], at: usize, label: &[u8], key: u64) -> usize
     requires { ⌜ at + length (now label ++ hexadecimal key) ≤ length (now output) ⌝ }
     ensures { λ r. ⌜ Written (now (output .entry)) at (now (label .entry) ++ hexadecimal key) (now (output .exit)) r ⌝ }
 {
