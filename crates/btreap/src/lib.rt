@@ -8,6 +8,7 @@ ghost use Rattle.call_batch.specs.Batch.{batchReply, batchAfter};
 ghost use Rattle.call_step.specs.Steps.{stepReply, stepPlace};
 ghost use Rattle.call_meaning.specs.Calls.{setUpReply, setUpAfter, loadReply, loadAfter, buildReply, buildAfter, insertReply, insertAfter, deleteReply, deleteAfter, lookupReply, lookupCorrection, rangeReply, rangeOutput, writeReply, writeOutput, readReply, readAfter};
 ghost use Rattle.call_list.specs.Listed.{listReply, listOutput};
+ghost use Rattle.call_pages.specs.Paged.{pagesReply, pagesOutput};
 ghost use Rattle.call_points.specs.Pointed.{pointsReply, pointsRest};
 ghost use Rattle.btreap_structs.specs.Structs.{ranked, found, sized, stepped, placeGiven, markAfter, pointed};
 use btreap_structs::FoundReply;
@@ -154,6 +155,16 @@ pub extern "C" fn btreap_list(image: &[u8], output: &mut [u8]) -> SizedReply
     ensures { λ _. ⌜ now (output .exit) ≡ listOutput (now (image .entry)) (now (output .entry)) ⌝ }
 {
     let answer = index::list(image, output);
+    btreap_structs::listed(answer)
+}
+
+// Write the table's printed pages at the start of `output`; how many bytes they have. Refusals: 1, 7, 11.
+#[no_mangle]
+pub extern "C" fn btreap_pages(table: &[u64], output: &mut [u8]) -> SizedReply
+    ensures { λ r. ⌜ sized r ≡ pagesReply (now (table .entry)) (now (output .entry)) ⌝ }
+    ensures { λ _. ⌜ now (output .exit) ≡ pagesOutput (now (table .entry)) (now (output .entry)) ⌝ }
+{
+    let answer = index::pages(table, output);
     btreap_structs::listed(answer)
 }
 

@@ -1,3 +1,2 @@
--- Laws of the listing as a call and as a program.
+-- Laws of the listing as a call.
 pub mod Calling
-pub mod Printing

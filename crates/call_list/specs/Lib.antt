@@ -1,2 +1,2 @@
--- The listing of an image as a call, and as the text that the listing program prints.
+-- The listing of an image as a call.
 pub mod Listed

@@ -18,12 +18,13 @@ use Rattle.call_step.specs.Steps.{endReply, yielded, sought, stepReply, stepPla
 use Rattle.call_step.specs.declared.Place.{Place}
 use Rattle.call_batch.specs.Batch.{heldBy, rankBy, answered, batchReply, batchAfter}
 use Rattle.call_batch.specs.declared.Question.{Question}
-use Rattle.history.specs.Call.{Call, setUp, build, reading, insert, delete, lookup, range, writing, step, load, batch, reply, output}
+use Rattle.call_pages.specs.Paged.{pagesReply, pagesOutput}
+use Rattle.history.specs.Call.{Call, setUp, build, reading, insert, delete, lookup, range, writing, step, load, batch, printing, reply, output}
 use Rattle.history.specs.Book.{refusalBy, replyBy, correctionBy, outputBy, placeBy, lineBy, linesBy}
 use Rattle.history.specs.Theorems.{Answers}
 use Rattle.call_replies.proofs.Refusals.{both-same}
 use Rattle.call_meaning.proofs.Shows.{Shows}
-use Rattle.history.proofs.Refused.{set-up-refused, load-refused, build-refused, reading-refused, insert-refused, delete-refused, lookup-refused, range-refused, writing-refused, batch-refused, step-accepted}
+use Rattle.history.proofs.Refused.{set-up-refused, load-refused, build-refused, reading-refused, insert-refused, delete-refused, lookup-refused, range-refused, writing-refused, batch-refused, printing-refused, step-accepted}
 
 -- a step that is not turned down gives no refusal's number
 step-said : (done : Bool) (key : ℕ) → cond done endReply (yielded key) ≡ record { refusal = 0; numbers = cond done endReply (yielded key) .numbers }
@@ -88,6 +89,10 @@ module _ (many : ℕ) (words : List ℕ) (book : Contents) (table : Shows many w
   unfolding batchReply replyBy
   batch-replies questions = rw (batch-refused many words book table questions, table .holds)
 
+  printing-replies : (lent : List ℕ) → pagesReply words lent ≡ replyBy many (printing lent) book
+  unfolding pagesReply replyBy
+  printing-replies lent = rw (printing-refused many words book table lent, table .holds)
+
   replies-by-book : (call : Call) → reply call words ≡ replyBy many call book
   replies-by-book (setUp order) = set-up-replies order
   replies-by-book (build order list lengths corrections) = build-replies order list lengths corrections
@@ -100,6 +105,7 @@ module _ (many : ℕ) (words : List ℕ) (book : Contents) (table : Shows many w
   replies-by-book (step place) = step-replies place
   replies-by-book (load order seed count) = load-replies order seed count
   replies-by-book (batch questions) = batch-replies questions
+  replies-by-book (printing lent) = printing-replies lent
 
   -- ---- outputs
   same-output : (call : Call) (lent : List ℕ) → lent ≡ unlessRefused (refusalBy many call book) lent lent
@@ -112,6 +118,10 @@ module _ (many : ℕ) (words : List ℕ) (book : Contents) (table : Shows many w
   writing-fills : (lent : List ℕ) → writeOutput words lent ≡ outputBy many (writing lent) book
   unfolding writeOutput outputBy
   writing-fills lent = rw (writing-refused many words book table lent, table .holds)
+
+  printing-fills : (lent : List ℕ) → pagesOutput words lent ≡ outputBy many (printing lent) book
+  unfolding pagesOutput outputBy
+  printing-fills lent = rw (printing-refused many words book table lent, table .holds)
 
   outputs-by-book : (call : Call) → output call words ≡ outputBy many call book
   unfolding outputBy
@@ -126,6 +136,7 @@ module _ (many : ℕ) (words : List ℕ) (book : Contents) (table : Shows many w
   outputs-by-book (step place) = same-output (step place) []
   outputs-by-book (load order seed count) = same-output (load order seed count) []
   outputs-by-book (batch questions) = same-output (batch questions) []
+  outputs-by-book (printing lent) = printing-fills lent
 
   -- ---- places
   places-by-book : (place : Place) → stepPlace words place ≡ placeBy place book

@@ -7,7 +7,7 @@ use Rattle.lists.specs.Lists.{keep}
 use Rattle.lists.proofs.Tests.{by-test, true-or-false}
 use Rattle.table.specs.Contents.{Contents}
 use Rattle.call_replies.proofs.Refusals.{both-same}
-use Rattle.history.specs.Call.{Call, setUp, build, reading, insert, delete, lookup, range, writing, step, load, batch, run, runs, asks, callsOf}
+use Rattle.history.specs.Call.{Call, setUp, build, reading, insert, delete, lookup, range, writing, step, load, batch, printing, run, runs, asks, callsOf}
 use Rattle.history.specs.Book.{blank, refusalBy, note, notes}
 use Rattle.history.specs.Theorems.{AskingChangesNothing}
 
@@ -23,6 +23,7 @@ leaves-words (writing output) e words = refl
 leaves-words (step place) e words = refl
 leaves-words (load order seed count) e words = absurd (true-or-false false e refl)
 leaves-words (batch questions) e words = refl
+leaves-words (printing output) e words = refl
 
 leaves-book : (call : Call) → asks call ≡ true → (many : ℕ) (book : Contents) → note many call book ≡ book
 unfolding note
@@ -37,6 +38,7 @@ leaves-book (writing output) e many book = both-same (refusalBy many (writing ou
 leaves-book (step place) e many book = both-same (refusalBy many (step place) book) book
 leaves-book (load order seed count) e many book = absurd (true-or-false false e refl)
 leaves-book (batch questions) e many book = both-same (refusalBy many (batch questions) book) book
+leaves-book (printing output) e many book = both-same (refusalBy many (printing output) book) book
 
 abbrev changing : List Call → List Call
 changing calls = keep (λ call. not (asks call)) calls

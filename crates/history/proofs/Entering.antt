@@ -26,7 +26,7 @@ use Rattle.call_meaning.specs.Calls.{rewritten, grown, shrunk, setUpAfter, load
 use Rattle.call_changes.proofs.Sets.{joined-length, joined-valid, without-valid}
 use Rattle.call_changes.proofs.Loading.{blank-valid, loaded-valid}
 use Rattle.table_decode.proofs.RisingKeys.{rising-says}
-use Rattle.history.specs.Call.{Call, setUp, build, reading, insert, delete, lookup, range, writing, step, load, batch, Lent, run}
+use Rattle.history.specs.Call.{Call, setUp, build, reading, insert, delete, lookup, range, writing, step, load, batch, printing, Lent, run}
 use Rattle.history.specs.Book.{blank, listed, withKey, withoutKey, loadedBook, entered, reasons, refusalBy, note}
 use Rattle.call_replies.proofs.Refusals.{none-applies, refused-through, either-way, both-same}
 use Rattle.call_meaning.proofs.Shows.{Shows}
@@ -58,6 +58,7 @@ module _ (many : ℕ) (words : List ℕ) (book : Contents) (table : Shows many w
   run-notes (writing lent) = unwritten (writing lent)
   run-notes (step place) = unwritten (step place)
   run-notes (batch questions) = unwritten (batch questions)
+  run-notes (printing output) = unwritten (printing output)
   run-notes (load order seed count) =
       written _ _ (loadedBook (slotsFor (length words)) order seed count) _ (load-refused many words book table order seed count)
       (ap (λ (m : ℕ). loadedBook m order seed count) (table .slots))
@@ -124,6 +125,7 @@ module _ (many : ℕ) (book : Contents) (valid : Valid many book) where
   numbered (step place) = tt
   numbered (load order seed count) = omega arith
   numbered (batch questions) = omega arith
+  numbered (printing output) = omega arith
 
   entered-valid : (call : Call) → Lent call → Spared call → Valid many (entered many call book)
   unfolding wrongOrder
@@ -137,6 +139,7 @@ module _ (many : ℕ) (book : Contents) (valid : Valid many book) where
   entered-valid (writing output) lent spared = valid
   entered-valid (step place) lent spared = valid
   entered-valid (batch questions) lent spared = valid
+  entered-valid (printing output) lent spared = valid
   entered-valid (load order seed count) lent spared = loaded-valid many order seed count (not-false (newOrder order) (spared .0))
 
   pub note-valid : (call : Call) → Lent call → Valid many (note many call book)

@@ -25,6 +25,7 @@ every-call =
       writings = λ output small. small;
       steps = λ place first second. (first, second);
       batches = λ questions sized. sized;
+      printings = λ output small. small;
       loads = λ order seed count word start few. (word, start, few);
     }
 

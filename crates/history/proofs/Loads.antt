@@ -25,7 +25,7 @@ use Rattle.call_meaning.specs.Calls.{loadRefusal}
 use Rattle.call_replies.proofs.Refusals.{none-applies}
 use Rattle.table_limits.specs.Lengths.{slotsFor}
 use Rattle.table_limits.proofs.Lengths.{slots-for-some}
-use Rattle.history.specs.Call.{Call, setUp, build, reading, insert, delete, lookup, range, writing, step, load, batch, Lent, run, runs, Opening, bySetUp, byLoad, opened, Accepted, History, callsOf, callFor, callsOfLoad, standsFor, spelledOut}
+use Rattle.history.specs.Call.{Call, setUp, build, reading, insert, delete, lookup, range, writing, step, load, batch, printing, Lent, run, runs, Opening, bySetUp, byLoad, opened, Accepted, History, callsOf, callFor, callsOfLoad, standsFor, spelledOut}
 use Rattle.history.specs.Book.{blank, refusalBy, note, notes, bookOf}
 use Rattle.history.specs.Theorems.{Table, LoadCounts, LoadsSpelledOut}
 use Rattle.history.proofs.Running.{runs-note, table-from-book, first-noted, first-leaves}
@@ -136,6 +136,7 @@ stands-noted many (range low high output) book = refl
 stands-noted many (writing output) book = refl
 stands-noted many (step place) book = refl
 stands-noted many (batch questions) book = refl
+stands-noted many (printing output) book = refl
 stands-noted many (load order seed count) book =
     by-test (newOrder order)
     (λ e. rw e (sym (counts-in-book many order seed count e book)))
@@ -160,6 +161,7 @@ stands-lent (range low high output) lent = (lent, tt)
 stands-lent (writing output) lent = (lent, tt)
 stands-lent (step place) lent = (lent, tt)
 stands-lent (batch questions) lent = (lent, tt)
+stands-lent (printing output) lent = (lent, tt)
 stands-lent (load order seed count) lent =
     by-test (newOrder order) (λ e. rw e (lent .0, operations-lent (operations seed count) (operations-keys seed count))) (λ e. rw e tt)
 

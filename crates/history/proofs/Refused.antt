@@ -10,7 +10,8 @@ use Rattle.call_meaning.specs.Calls.{grown, setUpRefusal, loadRefusal, buildRef
 use Rattle.call_step.specs.Steps.{stepRefusal}
 use Rattle.call_batch.specs.Batch.{batchRefusal}
 use Rattle.call_batch.specs.declared.Question.{Question}
-use Rattle.history.specs.Call.{setUp, build, reading, insert, delete, lookup, range, writing, load, batch}
+use Rattle.call_pages.specs.Paged.{pagesRefusal}
+use Rattle.history.specs.Call.{setUp, build, reading, insert, delete, lookup, range, writing, load, batch, printing}
 use Rattle.history.specs.Book.{refusalBy}
 use Rattle.call_meaning.proofs.Shows.{Shows}
 
@@ -55,6 +56,10 @@ module _ (many : ℕ) (words : List ℕ) (book : Contents) (table : Shows many w
   pub batch-refused : (questions : List Question) → batchRefusal words questions ≡ refusalBy many (batch questions) book
   unfolding batchRefusal refusalBy wrongLength notSound
   batch-refused questions = rw (table .right, table .sound)
+
+  pub printing-refused : (lent : List ℕ) → pagesRefusal words lent ≡ refusalBy many (printing lent) book
+  unfolding pagesRefusal refusalBy wrongLength notSound
+  printing-refused lent = rw (table .right, table .sound, table .holds)
 
   pub step-accepted : stepRefusal words ≡ 0
   unfolding stepRefusal wrongLength notSound

@@ -24,7 +24,8 @@ use Rattle.call_step.specs.Steps.{endReply, yielded, moved}
 use Rattle.call_step.specs.declared.Place.{Place}
 use Rattle.call_batch.specs.Batch.{keysOf}
 use Rattle.call_batch.specs.declared.Question.{Question}
-use Rattle.history.specs.Call.{Call, setUp, build, reading, insert, delete, lookup, range, writing, step, load, batch}
+use Rattle.text_pages.specs.Pages.{pagesOf}
+use Rattle.history.specs.Call.{Call, setUp, build, reading, insert, delete, lookup, range, writing, step, load, batch, printing}
 
 -- ---- what is noted
 -- "Set-up ..: the given order, no keys."
@@ -49,7 +50,7 @@ abbrev pub loadedBook : ℕ → ℕ → ℕ → ℕ → Contents
 loadedBook many order seed count = record { order = order; entries = loaded many seed count }
 
 -- The book after an accepted call: "Reading ..: the order and set whose image the bytes are"; "at a lookup, range or writing, the book
--- stays as it was", and steps and batches of lookups "change neither table nor book".
+-- stays as it was", and steps, batches of lookups and printings "change neither table nor book".
 abbrev pub entered : ℕ → Call → Contents → Contents
 entered many (setUp order) book = blank order
 entered many (build order list lengths corrections) book = listed order list lengths corrections
@@ -62,6 +63,7 @@ entered many (writing output) book = book
 entered many (step place) book = book
 entered many (load order seed count) book = loadedBook many order seed count
 entered many (batch questions) book = book
+entered many (printing output) book = book
 
 -- ---- refusals
 -- "Refusals 2, 3, 5 and 6 are judged on the input, 8 to 10 on input, book and M"; so is 12, on the input, which document 02 adds to insert and
@@ -91,6 +93,7 @@ reasons many (writing output) book = outputTooShort (length output) (length (ima
 reasons many (step place) book = []
 reasons many (load order seed count) book = wrongOrder order ∷ []
 reasons many (batch questions) book = notRising (keysOf questions) ∷ []
+reasons many (printing output) book = outputTooShort (length output) (length (pagesOf book)) ∷ []
 
 unfoldable pub refusalBy : ℕ → Call → Contents → ℕ
 refusalBy many call book = firstThatApplies (reasons many call book)
@@ -125,6 +128,7 @@ numbersBy (writing output) book = length (imageOf book) ∷ []
 numbersBy (step place) book = cond (place .done) endReply (yielded (leastWithin (place .next) (place .high) (keysIn book))) .numbers
 numbersBy (load order seed count) book = []
 numbersBy (batch questions) book = blocksMetByAll (book .order) priorityOf (keysIn book) (keysOf questions) ∷ []
+numbersBy (printing output) book = length (pagesOf book) ∷ []
 
 -- "A refusal returns its number, all other numbers zero".
 abbrev pub zeros : Call → List ℕ
@@ -139,6 +143,7 @@ zeros (writing output) = 0 ∷ []
 zeros (step place) = 0 ∷ 0 ∷ []
 zeros (load order seed count) = []
 zeros (batch questions) = 0 ∷ []
+zeros (printing output) = 0 ∷ []
 
 unfoldable pub replyBy : ℕ → Call → Contents → Reply
 replyBy many call book =
@@ -148,7 +153,7 @@ replyBy many call book =
 unfoldable pub correctionBy : ℕ → ℕ → Contents → ℤ
 correctionBy many key book = unlessRefused (refusalBy many (lookup key) book) (measureIn (book .entries) key .correction) (pos 0)
 
--- What an accepted range and an accepted writing leave in their output, and what a refused one does; none where a call is lent none.
+-- What an accepted range, writing or printing leaves in its output, and what a refused one does; none where a call is lent none.
 abbrev pub filled : Call → Contents → List ℕ
 filled (setUp order) book = []
 filled (build order list lengths corrections) book = []
@@ -161,6 +166,7 @@ filled (writing output) book = overwrite output 0 (imageOf book)
 filled (step place) book = []
 filled (load order seed count) book = []
 filled (batch questions) book = []
+filled (printing output) book = overwrite output 0 (pagesOf book)
 
 abbrev pub lentOutput : Call → List ℕ
 lentOutput (setUp order) = []
@@ -174,6 +180,7 @@ lentOutput (writing output) = output
 lentOutput (step place) = []
 lentOutput (load order seed count) = []
 lentOutput (batch questions) = []
+lentOutput (printing output) = output
 
 unfoldable pub outputBy : ℕ → Call → Contents → List ℕ
 outputBy many call book = unlessRefused (refusalBy many call book) (filled call book) (lentOutput call)

@@ -17,10 +17,11 @@ use Rattle.call_step.specs.Steps.{stepReply}
 use Rattle.call_step.specs.declared.Place.{Place}
 use Rattle.call_batch.specs.Batch.{batchReply}
 use Rattle.call_batch.specs.declared.Question.{Question}
+use Rattle.call_pages.specs.Paged.{pagesReply, pagesOutput}
 
 -- "A history is a list of set-up, build, reading (of an image), insert, delete, lookup, range and writing (of one), refused calls
 -- included .. Each call brings its own inputs, whatever they hold, and its own output .. steps, and calls of document 02 that write no word
--- of this table, may come anywhere between" (01); of document 02 a load (N1) and a batch of lookups (N2). "Inserts, build lists and lookups
+-- of this table, may come anywhere between" (01); of document 02 a load (N1), a batch of lookups (N2) and a printing of pages (N6). "Inserts, build lists and lookups
 -- carry" measures (N4): an insert its key's, a build list the lengths and the corrections beside it.
 pub data Call : Type 0 where
   setUp : (order : ℕ) → Call
@@ -34,6 +35,7 @@ pub data Call : Type 0 where
   step : (place : Place) → Call
   load : (order : ℕ) → (seed : ℕ) → (count : ℕ) → Call
   batch : (questions : List Question) → Call
+  printing : (output : List ℕ) → Call
 
 -- What can be lent as a word; what can be lent as a byte is `IsByte`.
 abbrev pub IsWord : ℕ → Type 0
@@ -60,6 +62,7 @@ Lent (writing output) = All IsByte output
 Lent (step place) = IsWord (place .next) × IsWord (place .high)
 Lent (load order seed count) = IsWord order × IsWord seed × (count < 2 ^ 16)
 Lent (batch questions) = All IsQuestion questions
+Lent (printing output) = All IsByte output
 
 -- The table's words after a call: those that the call's contract names, and the same words where it writes none.
 abbrev pub run : Call → List ℕ → List ℕ
@@ -74,6 +77,7 @@ run (writing output) words = words
 run (step place) words = words
 run (load order seed count) words = loadAfter words order seed count
 run (batch questions) words = words
+run (printing output) words = words
 
 -- What a call over these words replies, as its contract says. The correction of a lookup, which has a sign, has a claim of its own.
 abbrev pub reply : Call → List ℕ → Reply
@@ -88,6 +92,7 @@ reply (writing output) words = writeReply words output
 reply (step place) words = stepReply words place
 reply (load order seed count) words = loadReply words order
 reply (batch questions) words = batchReply words questions
+reply (printing output) words = pagesReply words output
 
 -- The output that a call over these words was lent, after it, as its contract says; none where it is lent none. A step's place and a batch's
 -- lines are no such list; they have claims of their own.
@@ -103,6 +108,7 @@ output (writing lent) words = writeOutput words lent
 output (step place) words = []
 output (load order seed count) words = []
 output (batch questions) words = []
+output (printing lent) words = pagesOutput words lent
 
 -- "All its calls are lent one table, .. each as the call before left it".
 abbrev pub runs : List Call → List ℕ → List ℕ
@@ -122,6 +128,7 @@ asks (writing output) = true
 asks (step place) = true
 asks (load order seed count) = false
 asks (batch questions) = true
+asks (printing output) = true
 
 -- ---- loads
 -- "insert", "delete", "lookup": the call that an operation of a load is; "a load's keys are unmeasured" (02, N4).
@@ -147,6 +154,7 @@ standsFor (range low high output) = range low high output ∷ []
 standsFor (writing output) = writing output ∷ []
 standsFor (step place) = step place ∷ []
 standsFor (batch questions) = batch questions ∷ []
+standsFor (printing output) = printing output ∷ []
 standsFor (load order seed count) = cond (newOrder order) (callsOfLoad order seed count) []
 
 -- The calls that a list of calls stands for: none of them is a load.

@@ -12,7 +12,7 @@ use Rattle.table.specs.Layout.{mostSlots, leastOrder, greatestOrder, tableWords
 use Rattle.image.specs.Layout.{IsByte}
 use Rattle.call_step.specs.declared.Place.{Place}
 use Rattle.call_batch.specs.declared.Question.{Question}
-use Rattle.history.specs.Call.{Call, setUp, build, reading, insert, delete, lookup, range, writing, step, load, batch, IsWord, IsCorrection, Lent, History, callsOf}
+use Rattle.history.specs.Call.{Call, setUp, build, reading, insert, delete, lookup, range, writing, step, load, batch, printing, IsWord, IsCorrection, Lent, History, callsOf}
 use Rattle.history.specs.Theorems.{Table}
 
 -- "A table has M slots, M from 1 to 4,096, and lives in lent 64-bit words" (01); "the table is 3 + 8·M words" (02, N4): any words of that
@@ -37,6 +37,7 @@ pub record EveryCall : Type 0 where
   pub writings : (output : List ℕ) → All IsByte output → Lent (writing output)
   pub steps : (place : Place) → IsWord (place .next) → IsWord (place .high) → Lent (step place)
   pub batches : (questions : List Question) → All (λ q. IsWord (q .key) × IsWord (q .held) × IsWord (q .rank)) questions → Lent (batch questions)
+  pub printings : (output : List ℕ) → All IsByte output → Lent (printing output)
   pub loads : (order seed count : ℕ) → IsWord order → IsWord seed → count < 2 ^ 16 → Lent (load order seed count)
 
 -- "Its first call is an accepted set-up", or an accepted load: every such list of calls is a history.

@@ -20,9 +20,10 @@ pub use call_step::Place;
 pub use call_step::step;
 pub use call_step::step_at;
 
-// Write a table's image; list an image.
+// Write a table's image, or its printed pages; list an image.
 pub use call_image::write;
 pub use call_list::list;
+pub use call_pages::pages;
 
 // The size of a measure in Paris points; no table is lent.
 pub use call_points::points;

@@ -289,22 +289,32 @@ pub fn read(table: &mut [u64], image: &[u8]) {
     say(b"\n");
 }
 
-// The listing of an image, with the text after the line.
-pub fn list(image: &[u8], output: &mut [u8]) {
-    say(b"list:");
-    let answer = index::list(image, output);
+// The answer of a call that writes a text, and the text after the line.
+fn tell_text(answer: Listed, text: &[u8]) {
     match answer {
         Listed::Bytes(n) => {
             tell(0);
             tell(n as u64);
             say(b"\n");
-            say_first(output, n);
+            say_first(text, n);
         }
         Listed::Refused(reason) => {
             refused(reason);
             say(b"\n");
         }
     }
+}
+
+pub fn list(image: &[u8], output: &mut [u8]) {
+    say(b"list:");
+    let answer = index::list(image, output);
+    tell_text(answer, output);
+}
+
+pub fn pages(table: &[u64], output: &mut [u8]) {
+    say(b"pages:");
+    let answer = index::pages(table, output);
+    tell_text(answer, output);
 }
 
 // One step from a place that is lent to it: the answer, and the place as the step left it.

@@ -1,6 +1,6 @@
 // Runs the calls: first on the figures of documents 01 and 02, then loads, then a session on three slots in which keys come with measures and
-// without, are looked up alone and together, a range is read at once and key by key and an image is written, read and listed, then over
-// words that are no table and a table that is not sound, and last sizes in Paris points. Every refusal of every call is met.
+// without, are looked up alone and together, a range is read at once and key by key and an image is written, read and listed and pages
+// are printed, then over words that are no table and a table that is not sound, and last sizes in Paris points. Every refusal of every call is met.
 use index::Place;
 
 mod calls;
@@ -25,6 +25,9 @@ const LENGTH_AT: usize = 61;
 
 // Room for the listing of such an image.
 const LISTING: usize = 200;
+
+// The bytes of a page with three keys.
+const PAGE: usize = 157;
 
 // A set-up of the first `n` words.
 fn set_up_first(words: &mut [u64], n: usize) {
@@ -218,6 +221,14 @@ fn try_images(table: &mut [u64]) {
     images(table, &mut image, &mut text);
 }
 
+// The pages of a table, with too little room and with room for three keys.
+fn pages(table: &[u64]) {
+    let mut none = [0u8; 1];
+    let mut text = [0u8; PAGE];
+    calls::pages(table, &mut none);
+    calls::pages(table, &mut text);
+}
+
 // The calls that need a sound table, over these words.
 fn use_table(table: &mut [u64]) {
     let mut image = [0u8; THREE_KEYS];
@@ -229,6 +240,7 @@ fn use_table(table: &mut [u64]) {
     calls::range(table, 5, 9);
     calls::step(table, Place::ALL);
     calls::write(table, &mut image);
+    calls::pages(table, &mut image);
 }
 
 // The calls that make a table of any words, over these.
@@ -287,11 +299,13 @@ fn main() {
     orders(&mut table);
     loads(&mut table);
     calls::set_up(&mut table, 3);
+    pages(&table);
     fill(&mut table);
     ask(&table);
     walks(&table);
     take(&mut table);
     try_images(&mut table);
+    pages(&table);
     no_table();
     damaged(&mut table);
     sizes();

@@ -18,13 +18,14 @@ pub key-line-length : (key rank count leader : ℕ) (m : Measure) → rank < col
 unfolding pageLine
 key-line-length key rank count leader m h k right =
     simp length-append
-    (omega
-    (arith,
-    hexadecimal-length key,
-    column-length (decimal rank) (number-fits rank h),
-    column-length (decimal count) (number-fits count k),
-    hexadecimal-length leader,
-    column-length (sizeText (sizeOf m)) (size-fits m right)))
+    (omega (
+      arith,
+      hexadecimal-length key,
+      column-length (decimal rank) (number-fits rank h),
+      column-length (decimal count) (number-fits count k),
+      hexadecimal-length leader,
+      column-length (sizeText (sizeOf m)) (size-fits m right),
+    ))
 
 pub heading-length : (number : ℕ) → length (headingLine number) ≡ 10
 unfolding headingLine

@@ -1,6 +1,6 @@
 -- `text::put_spaces` meets its contract. The loop's invariant: the spaces before its index are written. Assumes nothing.
 use native.Mathlib.Numerals.{add-one}
-use mathlib.Core.Path.{_≡_, refl, ap, subst}
+use mathlib.Core.Path.{subst}
 use Prim.Native.Nat.{ℕ, suc, _+_, _-_, _≤_}
 use native.Mathlib.Omega.{arith}
 use lib.ListN.{length, set}
@@ -42,9 +42,9 @@ loop-again c =
     let loop = c .before .loop in
     let args = c .before .before .args in
     rw add-one
-      (subst (λ (x : ℕ). Begun (args .output .now) (args .at) (spaces (args .many)) (set (loop .output) (args .at + loop .i) x) (suc (loop .i)))
-        (spaces-at (args .many) (loop .i) (omega arith))
-        (begun-more (loop .inv) (room (c .before .before)) (omega (arith, spaces-length (args .many)))))
+    (subst (λ (x : ℕ). Begun (args .output .now) (args .at) (spaces (args .many)) (set (loop .output) (args .at + loop .i) x) (suc (loop .i)))
+    (spaces-at (args .many) (loop .i) (omega arith))
+    (begun-more (loop .inv) (room (c .before .before)) (omega (arith, spaces-length (args .many)))))
 
 add-result : tie.Need-add-result Inv-loop μ-loop
 add-result c = search needs

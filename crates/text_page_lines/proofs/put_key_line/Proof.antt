@@ -1,8 +1,7 @@
 -- `text_page_lines::put_key_line` meets its contract: its columns are written one after the other. Assumes nothing.
 use mathlib.Core.List.{List, _++_}
 use mathlib.Core.Path.{subst}
-use Prim.Native.Nat.{ℕ, _+_, _≤_}
-use lib.ListN.{length}
+use Prim.Native.Nat.{ℕ, _+_}
 use Rattle.measure.specs.Tag.{measureAt}
 use Rattle.paris_points.specs.Points.{sizeOf}
 use Rattle.text.specs.Digits.{decimal, hexadecimal}

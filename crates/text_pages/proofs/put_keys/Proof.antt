@@ -4,12 +4,11 @@ use mathlib.Core.Path.{_≡_, ap, _∙_, subst}
 use Prim.Native.Nat.{ℕ, suc, _+_, _-_, _≤_}
 use native.Mathlib.Numerals.{add-one}
 use native.Mathlib.Omega.{arith}
-use lib.ListN.{length, getD}
+use lib.ListN.{getD}
 use lib.Seq.{slice, slice-empty, slice-cons}
 use Rattle.table.specs.Table.{contentsOf}
 use Rattle.text.proofs.Ongoing.{Ongoing, ongoing-none, ongoing-all, ongoing-size, ongoing-fits, ongoing-next}
 use Rattle.text_pages.specs.Pages.{lineOf}
-use borrow.Author.Needs.{needs}
 use Rattle.text_pages.proofs.put_keys.Statement.{statement}
 use Rattle.text_pages.proofs.put_keys.Tie as tie
 

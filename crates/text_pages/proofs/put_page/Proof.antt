@@ -1,6 +1,6 @@
 -- `text_pages::put_page` meets its contract: the line of its number is written, then those of its keys. Assumes nothing.
 use mathlib.Core.List.{List, _++_, flatMap}
-use mathlib.Core.Path.{_≡_, subst}
+use mathlib.Core.Path.{subst}
 use Prim.Native.Nat.{ℕ, _+_, _*_, _≤_}
 use native.Mathlib.Omega.{arith}
 use lib.ListN.{length}

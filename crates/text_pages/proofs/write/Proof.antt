@@ -1,5 +1,5 @@
 -- `text_pages::write` meets its contract. The loop's invariant: the pages from its index on are still to come. Assumes nothing.
-use mathlib.Core.List.{List, [], _++_, flatMap}
+use mathlib.Core.List.{List, _++_, flatMap}
 use mathlib.Core.Path.{_≡_, sym, ap, _∙_, subst}
 use Prim.Native.Nat.{ℕ, suc, _+_, _-_, _≤_}
 use native.Mathlib.Numerals.{add-one}
@@ -12,7 +12,6 @@ use Rattle.text.proofs.Ongoing.{Ongoing, ongoing-none, ongoing-all, ongoing-siz
 use Rattle.text_pages.specs.Pages.{pageOf, pageCount, pagesOf}
 use Rattle.text_pages.proofs.Counting.{pages-reach}
 use Rattle.text_pages.proofs.Lines.{keys-few}
-use borrow.Author.Needs.{needs}
 use Rattle.text_pages.proofs.write.Statement.{statement}
 use Rattle.text_pages.proofs.write.Tie as tie
 

@@ -1,4 +1,4 @@
--- `call_list::put_refused` meets its contract. Assumes nothing.
+-- `image_programs::put_refused` meets its contract. Assumes nothing.
 use mathlib.Core.List.{List, _++_}
 use Prim.Native.Nat.{ℕ, _+_, _≤_}
 use native.Mathlib.Omega.{arith}
@@ -8,14 +8,10 @@ use Rattle.text.specs.Digits.{decimal}
 use Rattle.text.specs.Written.{Written}
 use Rattle.text.proofs.Decimal.{decimal-fits}
 use Rattle.text.proofs.Pieces.{front-fits, next-fits, written-then}
-use Rattle.call_list.specs.Listed.{refusedText}
+use Rattle.image_programs.specs.Printed.{refusedText}
 use borrow.Author.Needs.{needs}
-use Rattle.call_list.proofs.put_refused.Statement.{statement}
-use Rattle.call_list.proofs.put_refused.Tie as tie
-use Rattle.call_list.proofs.put_refused.Reads as reads
-use Rattle.call_list.proofs.put_refused.Lts as lts
-use Rattle.text.proofs.put_bytes.Reads as put-bytes-reads
-use Rattle.text.proofs.put_decimal.Reads as put-decimal-reads
+use Rattle.image_programs.proofs.put_refused.Statement.{statement}
+use Rattle.image_programs.proofs.put_refused.Tie as tie
 
 -- What is written after one piece, and after two.
 abbrev to-word : List ℕ

@@ -1,14 +1,9 @@
--- `list_image::print` is safe and returns. Assumes nothing.
+-- `image_programs::run` is safe and returns. Assumes nothing.
 use mathlib.Core.Path.{sym}
 use lib.Seq.{length-take-le}
 use borrow.Author.Needs.{needs}
-use Rattle.list_image.proofs.print.Statement.{statement}
-use Rattle.list_image.proofs.print.Tie as tie
-use Rattle.list_image.proofs.print.Reads as reads
-use Rattle.list_image.proofs.print.Lts as lts
-use Rattle.io.proofs.read_full.Reads as read-full-reads
-use Rattle.io.proofs.write_all.Reads as write-all-reads
-use Rattle.call_list.proofs.print.Reads as print-reads
+use Rattle.image_programs.proofs.run.Statement.{statement}
+use Rattle.image_programs.proofs.run.Tie as tie
 
 returns : tie.Need-returns
 returns c = search needs
@@ -52,8 +47,8 @@ same-length-4 c = search needs
 returns-3 : tie.Need-returns-3
 returns-3 c = search needs
 
-pub print-spec : {M : Type 1} → statement M
-print-spec =
+pub run-spec : {M : Type 1} → statement M
+run-spec =
     tie.close
     (tie.spec
     returns

@@ -1,0 +1,2 @@
+-- What the tests of a printing say of its reply and its output.
+pub mod Printing

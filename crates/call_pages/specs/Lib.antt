@@ -1,0 +1,2 @@
+-- The printed pages of a table as a call.
+pub mod Paged

@@ -1,0 +1,2 @@
+-- What the programs print, test by test.
+pub mod Printing

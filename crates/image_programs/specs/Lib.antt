@@ -1,0 +1,2 @@
+-- What the programs print of the image on their standard input.
+pub mod Printed
