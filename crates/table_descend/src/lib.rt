@@ -63,21 +63,6 @@ fn standing_of(table: &[u64], many: usize, slot: usize, key: u64) -> Standing
     }
 }
 
-// The standing of a key that the table holds. The constants of the priorities are lent.
-// Internal to this library's crates: their tables are judged before.
-pub fn find_standing(
-    table: &[u64],
-    many: usize,
-    key: u64,
-    constants: &[u64; CONSTANT_COUNT],
-) -> Standing
-    requires { ⌜ (0 < many) × (many ≤ mostSlots) × (length (now table) ≡ tableWords many) × (soundWith many (now table) ≡ true) × (1 ≤ key) × (member key (keysIn (contentsOf many (now table))) ≡ true) × HoldsConstants (now constants) ⌝ }
-    ensures { λ r. ⌜ r ≡ standingOf (contentsOf many (now (table .entry))) key ⌝ }
-{
-    let slot = slot_reached(table, many, key, constants);
-    standing_of(table, many, slot, key)
-}
-
 // The block that holds the root, counted for the first lookup alone.
 fn first_block(last: u64) -> usize
     ensures { λ r. ⌜ r ≡ firstBlock last ⌝ }

@@ -1,21 +1,25 @@
--- What is prepared can be written, and its words are the fresh table. Assumes an order of at least 2.
+-- What is prepared can be written, its words are the fresh table, and its columns the numbers of the keys. Assumes an order of at least 2.
 use mathlib.Core.List.{List, map}
-use mathlib.Core.Path.{_≡_, sym, ap₂, _∙_, subst}
+use mathlib.Core.Path.{_≡_, sym, ap, ap₂, _∙_, subst}
 use Prim.Native.Nat.{ℕ, suc, _<_, _≤_}
 use native.Mathlib.Omega.{arith}
 use lib.ListN.{length, getD, take, length-map}
 use Rattle.lists.specs.Lists.{All, Rising}
+use Rattle.lists.proofs.UpFrom.{upFrom-rising}
 use Rattle.priority.specs.Priority.{priorityOf}
 use Rattle.treap.specs.Treap.{leftLink, rightLink}
 use Rattle.treap.specs.Levels
 use Rattle.treap.specs.Levels.{leader}
+use Rattle.treap_structure.proofs.Relabel.{renamed-ranks, renamed-counts, renamed-leader}
 use Rattle.treap_columns.specs.Positions.{positions, weightAt}
 use Rattle.treap_columns.specs.Columns.{leftColumn, rightColumn, rankColumn, countColumn, leaderColumn}
 use Rattle.treap_columns.proofs.Filled.{column-at}
 use Rattle.table.specs.Tags.{tagged, Beside}
 use Rattle.table.specs.Table.{fresh}
-use Rattle.table_encode.specs.Encode.{Columns, Linked, wordsOf}
-use Rattle.table_encode.proofs.Fresh.{Right, slots-within, words-are-fresh}
+use Rattle.table_encode.specs.Encode.{keyAt, Columns, Linked, StandingsOf, wordsOf}
+use Rattle.table_encode.proofs.Fresh
+use Rattle.table_encode.proofs.Fresh.{Right, numbered, slots-within, words-are-fresh}
+use Rattle.table_encode.proofs.Renaming.{key-at-suc, keys-rename}
 use Rattle.table_prepare.specs.Prepared.{Prepared}
 use Rattle.table_prepare.proofs.Preparing.{left-low, right-low, leader-low, root-low}
 
@@ -71,3 +75,25 @@ module _ (order : ℕ) (wide : 2 ≤ order) (ks left right rank count lead slots
   prepared-words rising some tags beside =
       ap₂ (λ (r : ℕ) (s : List ℕ). wordsOf order ks tags r columns s) (made .root-is) (made .placed)
       ∙ words-are-fresh order wide ks rising some columns right-columns tags beside (length slots)
+
+  -- the numbers of each key, by its index
+  pub standings : Rising ks → All (λ k. 1 ≤ k) ks → StandingsOf order ks rank count lead
+  standings rising some =
+      let q = weightAt (map priorityOf ks) in
+      let rename = keys-rename priorityOf ks rising in
+      let rise = upFrom-rising 1 (length ks) in
+      record {
+        rank-long = made .rank-room;
+        count-long = made .count-room;
+        leader-long = made .leader-room;
+        rank-is = λ i h.
+            sym (numbered order wide ks rising some columns right-columns (Levels.rank order) rank (renamed-ranks (keyAt ks) priorityOf q (positions (length ks)) rename rise order wide) (right-columns .ranks) i h)
+            ∙ ap (Levels.rank order priorityOf ks) (key-at-suc ks i);
+        count-is = λ i h.
+            sym (numbered order wide ks rising some columns right-columns (Levels.count order) count (renamed-counts (keyAt ks) priorityOf q (positions (length ks)) rename rise order wide) (right-columns .counts) i h)
+            ∙ ap (Levels.count order priorityOf ks) (key-at-suc ks i);
+        leader-within = linked .leader-within;
+        leader-is = λ i h.
+            sym (Fresh.linked order wide ks rising some columns right-columns (leader order) lead (renamed-leader (keyAt ks) priorityOf q (positions (length ks)) rename rise order wide) (right-columns .leaders) i h)
+            ∙ ap (leader order priorityOf ks) (key-at-suc ks i);
+      }

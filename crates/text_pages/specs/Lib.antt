@@ -1,4 +1,4 @@
--- The printed pages of what a table holds, what is claimed of them, and what they are written from.
+-- The printed pages of what a table holds, what is claimed of them, and how they are written from lists.
 pub mod Pages
 pub mod Claims
-pub mod Lists
+pub mod Shown

@@ -1,80 +1,94 @@
 -- `call_pages::pages_in` meets its contract. Assumes nothing.
 use mathlib.Core.List.{List}
-use mathlib.Core.Path.{_≡_, sym, ap, _∙_}
+use mathlib.Core.Path.{_≡_, sym, ap, _∙_, subst}
 use Prim.Native.Nat.{ℕ, _≤_}
 use native.Mathlib.Omega.{arith}
 use lib.ListN.{length, take}
 use lib.Seq.{length-take-le}
-use Rattle.table.specs.Contents.{keysIn}
+use Rattle.table.specs.Contents.{Contents, keysIn}
 use Rattle.table.specs.Table.{contentsOf}
+use Rattle.table_encode.specs.Encode.{StandingsOf}
 use Rattle.table_examine.proofs.Verdicts.{told-false}
 use Rattle.table_examine.proofs.Examined.{Examined, examined}
+use Rattle.text.specs.Written.{Written}
 use Rattle.text_pages.specs.Pages.{pagesOf}
 use Rattle.text_pages.specs.Claims.{pagesBytes}
-use Rattle.text_pages.specs.Lists.{ListsOf}
-use Rattle.call_pages.proofs.Printing.{refused-table, refused-short, text-length, accepted}
+use Rattle.text_pages.specs.Shown.{shownPages, Printable}
+use Rattle.call_pages.proofs.Printing.{refused-table, refused-short, text-length, lists-printable, text-shown, accepted}
 use borrow.Author.Needs.{needs}
 use Rattle.call_pages.proofs.pages_in.Statement.{statement}
 use Rattle.call_pages.proofs.pages_in.Tie as tie
 
-abbrev begun : tie.After-examine → tie.Start
-begun q = q .before .before .before .before .before .before .before
+abbrev begun : tie.After-examine-standings → tie.Start
+begun q = q .before .before .before .before .before .before .before .before .before .before .before .before .before
 
-abbrev judged-at : tie.After-found → tie.After-examine
-judged-at p = p .before .before .before .before .before .before
+abbrev judged-at : tie.After-found → tie.After-examine-standings
+judged-at p = p .before .before .before .before .before .before .before .before .before .before .before .before
 
--- How many keys were found, the lists that hold them and their tags, and what the table holds.
+-- How many keys were found, and the lists that hold them and what belongs to them.
 abbrev size : tie.After-found → ℕ
 size p = p .found .given .0 .0
 
 abbrev listed : tie.After-found → List ℕ
-listed p = judged-at p .examine .last .1 .1 .0
+listed p = judged-at p .examine-standings .last .1 .1 .0
 
 abbrev tagged : tie.After-found → List ℕ
-tagged p = judged-at p .examine .last .1 .1 .1 .0
+tagged p = judged-at p .examine-standings .last .1 .1 .1 .0
 
-abbrev text : tie.After-found → List ℕ
-text p = let start = begun (judged-at p) in pagesOf (contentsOf (start .args .many) (start .args .table .now))
+abbrev ranks : tie.After-found → List ℕ
+ranks p = judged-at p .examine-standings .last .1 .1 .1 .1 .0
+
+abbrev counts : tie.After-found → List ℕ
+counts p = judged-at p .examine-standings .last .1 .1 .1 .1 .1 .0
+
+abbrev leaders : tie.After-found → List ℕ
+leaders p = judged-at p .examine-standings .last .1 .1 .1 .1 .1 .1 .0
+
+-- What the table holds.
+abbrev held : tie.After-found → Contents
+held p = let start = begun (judged-at p) in contentsOf (start .args .many) (start .args .table .now)
 
 found : (p : tie.After-found) → Examined (begun (judged-at p) .args .many) (begun (judged-at p) .args .table .now) (begun (judged-at p) .args .keys .now) (listed p)
     (begun (judged-at p) .args .tags .now) (tagged p) (size p)
 found p =
     let q = judged-at p in
     let start = begun q in
-    examined (start .args .many) (start .args .table .now) (start .args .keys .now) (listed p) (start .args .tags .now) (tagged p) (size p) (q .examine .result) (q .examine .ensures .0)
-    (p .found .given .1) (q .examine .ensures .1 .0) (q .examine .ensures .1 .1) (start .pre .3) (start .pre .4)
+    let says = q .examine-standings .ensures in
+    examined (start .args .many) (start .args .table .now) (start .args .keys .now) (listed p) (start .args .tags .now) (tagged p) (size p) (q .examine-standings .result) (says .0)
+    (p .found .given .1) (says .1 .0) (says .1 .1 .0) (start .pre .0 .3) (start .pre .0 .4)
+
+stands : (p : tie.After-found) → StandingsOf (held p .order) (keysIn (held p)) (ranks p) (counts p) (leaders p)
+stands p = judged-at p .examine-standings .ensures .1 .1 .1 (found p .sound)
 
 inside : (p : tie.After-found) → size p ≤ length (listed p)
-inside p = omega (arith, found p .most, found p .keys-there .long, begun (judged-at p) .pre .3)
+inside p = omega (arith, found p .most, found p .keys-there .long, begun (judged-at p) .pre .0 .3)
 
 tags-inside : (p : tie.After-found) → size p ≤ length (tagged p)
-tags-inside p = omega (arith, found p .most, found p .tags-there .long, begun (judged-at p) .pre .4)
+tags-inside p = omega (arith, found p .most, found p .tags-there .long, begun (judged-at p) .pre .0 .4)
 
--- The first of each are the table's.
-lists : (p : tie.After-found) → ListsOf (begun (judged-at p) .args .many) (begun (judged-at p) .args .table .now) (take (size p) (listed p)) (take (size p) (tagged p))
-lists p =
+-- The lists can be written, and they show the table's pages.
+printable : (p : tie.After-found) → Printable (take (size p) (listed p)) (take (size p) (tagged p)) (ranks p) (counts p) (leaders p)
+printable p =
     let start = begun (judged-at p) in
-    record {
-      some = start .pre .0;
-      most = start .pre .1;
-      long = start .pre .2;
-      sound = found p .sound;
-      keys-are = found p .keys-there .taken;
-      tags-are = found p .tags-there .taken;
-    }
+    lists-printable (start .args .many) (start .pre .0 .1) (start .args .table .now) (found p .sound) (found p .keys-there .taken) (found p .tags-there .taken) (stands p)
+
+shown : (p : tie.After-found) → pagesOf (held p) ≡ shownPages (take (size p) (listed p)) (take (size p) (tagged p)) (ranks p) (counts p) (leaders p)
+shown p =
+    let start = begun (judged-at p) in
+    text-shown (start .args .many) (start .pre .0 .1) (start .args .table .now) (found p .sound) (found p .keys-there .taken) (found p .tags-there .taken) (stands p)
 
 -- The size that was worked out is the text's length.
-size-is : (s : tie.After-size) → s .size .result ≡ pagesBytes (length (keysIn (contentsOf (begun (judged-at (s .before .before)) .args .many) (begun (judged-at (s .before .before)) .args .table .now))))
+size-is : (s : tie.After-size) → s .size .result ≡ pagesBytes (length (keysIn (held (s .before .before))))
 size-is s = s .size .ensures ∙ ap pagesBytes (found (s .before .before) .size)
 
-room : (e : tie.Else1) → length (text (e .before .before .before)) ≤ length (begun (judged-at (e .before .before .before)) .args .output .now)
+room : (e : tie.Else1) → length (pagesOf (held (e .before .before .before))) ≤ length (begun (judged-at (e .before .before .before)) .args .output .now)
 room e =
     let p = e .before .before .before in
     let start = begun (judged-at p) in
-    omega (arith, e .if1 .left, size-is (e .before), text-length (start .args .table .now) (start .args .output .now) (start .args .many) (start .pre .0) (start .pre .1) (start .pre .2) (found p .sound))
+    omega (arith, e .if1 .left, size-is (e .before), text-length (start .args .many) (start .pre .0 .1) (start .args .table .now) (found p .sound))
 
-examine-requires : tie.Need-examine-requires
-examine-requires c κs = search needs
+examine-standings-requires : tie.Need-examine-standings-requires
+examine-standings-requires c κs = let pre = c .before .before .before .before .before .before .before .before .before .before .before .before .pre in (pre .0, pre .1)
 
 enum-known-found : tie.Need-enum-known-found
 enum-known-found c = search needs
@@ -88,27 +102,45 @@ same-length c = search needs
 same-length-2 : tie.Need-same-length-2
 same-length-2 c = search needs
 
-returns : tie.Need-returns
-returns c =
-    let q = c .before .before .before .before .before .before in
-    let start = begun q in
-    refused-table (start .args .table .now) (start .args .output .now) (start .args .many) (start .pre .0) (start .pre .1) (start .pre .2)
-    (told-false (start .args .many) (start .args .table .now) (sym (q .examine .ensures .0) ∙ c .enum-told .given .1))
-
-size-requires : tie.Need-size-requires
-size-requires c κs = omega (arith, found (c .before) .most, begun (judged-at (c .before)) .pre .1)
-
 same-length-3 : tie.Need-same-length-3
 same-length-3 c = search needs
 
 same-length-4 : tie.Need-same-length-4
 same-length-4 c = search needs
 
+same-length-5 : tie.Need-same-length-5
+same-length-5 c = search needs
+
+returns : tie.Need-returns
+returns c =
+    let q = c .before .before .before .before .before .before .before .before .before .before .before .before in
+    let start = begun q in
+    refused-table (start .args .table .now) (start .args .output .now) (start .args .many) (start .pre .0 .0) (start .pre .0 .1) (start .pre .0 .2)
+    (told-false (start .args .many) (start .args .table .now) (sym (q .examine-standings .ensures .0) ∙ c .enum-told .given .1))
+
+size-requires : tie.Need-size-requires
+size-requires c κs = omega (arith, found (c .before) .most, begun (judged-at (c .before)) .pre .0 .1)
+
+same-length-6 : tie.Need-same-length-6
+same-length-6 c = search needs
+
+same-length-7 : tie.Need-same-length-7
+same-length-7 c = search needs
+
+same-length-8 : tie.Need-same-length-8
+same-length-8 c = search needs
+
+same-length-9 : tie.Need-same-length-9
+same-length-9 c = search needs
+
+same-length-10 : tie.Need-same-length-10
+same-length-10 c = search needs
+
 returns-2 : tie.Need-returns-2
 returns-2 c =
     let p = c .before .before .before in
     let start = begun (judged-at p) in
-    refused-short (start .args .table .now) (start .args .output .now) (start .args .many) (start .pre .0) (start .pre .1) (start .pre .2) (found p .sound)
+    refused-short (start .args .table .now) (start .args .output .now) (start .args .many) (start .pre .0 .0) (start .pre .0 .1) (start .pre .0 .2) (found p .sound)
     (c .before .size .result) (size-is (c .before)) (omega (arith, c .if1 .taken))
 
 slice-reshare-prefix-write : tie.Need-slice-reshare-prefix-write
@@ -125,48 +157,67 @@ slice-aggregate-write-2 c = sym (length-take-le _ _ (tags-inside (c .before .bef
 
 write-requires : tie.Need-write-requires
 write-requires c κs =
-    let e = c .before .before .before in
+    let e = c .before .before .before .before .before .before in
     let p = e .before .before .before in
-    ((lists p, begun (judged-at p) .pre .5), room e)
+    (printable p, omega (arith, ap length (shown p), room e))
 
-same-length-5 : tie.Need-same-length-5
-same-length-5 c = search needs
+same-length-11 : tie.Need-same-length-11
+same-length-11 c = search needs
 
-same-length-6 : tie.Need-same-length-6
-same-length-6 c = search needs
+same-length-12 : tie.Need-same-length-12
+same-length-12 c = search needs
 
-same-length-7 : tie.Need-same-length-7
-same-length-7 c = search needs
+same-length-13 : tie.Need-same-length-13
+same-length-13 c = search needs
+
+same-length-14 : tie.Need-same-length-14
+same-length-14 c = search needs
+
+same-length-15 : tie.Need-same-length-15
+same-length-15 c = search needs
+
+same-length-16 : tie.Need-same-length-16
+same-length-16 c = search needs
 
 returns-3 : tie.Need-returns-3
 returns-3 c =
-    let w = c .before .before in
-    let e = w .before .before .before .before in
+    let w = c .before .before .write in
+    let e = c .before .before .before .before .before .before .before .before .before in
     let p = e .before .before .before in
     let start = begun (judged-at p) in
-    accepted (start .args .table .now) (start .args .output .now) (start .args .many) (start .pre .0) (start .pre .1) (start .pre .2) (found p .sound) (room e)
-    (w .write .last .1 .1 .1 .1 .0) (w .write .result) (w .write .ensures)
+    let after = w .last .1 .1 .1 .1 .1 .0 in
+    accepted (start .args .table .now) (start .args .output .now) (start .args .many) (start .pre .0 .0) (start .pre .0 .1) (start .pre .0 .2) (found p .sound) (room e) after (w .result)
+    (subst (λ (text : List ℕ). Written (start .args .output .now) 0 text after (w .result)) (sym (shown p)) (w .ensures))
 
 pub pages-in-spec : {M : Type 1} → statement M
 pages-in-spec =
     tie.close
     (tie.spec
-    examine-requires
+    examine-standings-requires
     enum-known-found
     enum-told
     same-length
     same-length-2
-    returns
-    size-requires
     same-length-3
     same-length-4
+    same-length-5
+    returns
+    size-requires
+    same-length-6
+    same-length-7
+    same-length-8
+    same-length-9
+    same-length-10
     returns-2
     slice-reshare-prefix-write
     slice-aggregate-write
     slice-reshare-prefix-write-2
     slice-aggregate-write-2
     write-requires
-    same-length-5
-    same-length-6
-    same-length-7
+    same-length-11
+    same-length-12
+    same-length-13
+    same-length-14
+    same-length-15
+    same-length-16
     returns-3)

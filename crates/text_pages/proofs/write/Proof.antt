@@ -1,76 +1,70 @@
 -- `text_pages::write` meets its contract. The loop's invariant: the pages from its index on are still to come. Assumes nothing.
 use mathlib.Core.List.{List, _++_, flatMap}
-use mathlib.Core.Path.{_≡_, sym, ap, _∙_, subst}
+use mathlib.Core.Path.{_≡_, sym, _∙_, subst}
 use Prim.Native.Nat.{ℕ, suc, _+_, _-_, _≤_}
 use native.Mathlib.Numerals.{add-one}
 use native.Mathlib.Omega.{arith}
 use lib.ListN.{length}
 use Rattle.lists.specs.Lists.{upFrom}
-use Rattle.table.specs.Contents.{Contents, keysIn}
-use Rattle.table.specs.Table.{contentsOf}
 use Rattle.text.proofs.Ongoing.{Ongoing, ongoing-none, ongoing-all, ongoing-size, ongoing-fits, ongoing-next}
-use Rattle.text_pages.specs.Pages.{pageOf, pageCount, pagesOf}
+use Rattle.text_pages.specs.Shown.{shownPage, shownPages}
 use Rattle.text_pages.proofs.Counting.{pages-reach}
-use Rattle.text_pages.proofs.Lines.{keys-few}
 use Rattle.text_pages.proofs.write.Statement.{statement}
 use Rattle.text_pages.proofs.write.Tie as tie
 
--- So many pages, from how many come before them.
-abbrev pagesFrom : Contents → ℕ → ℕ → List ℕ
-pagesFrom c before many = flatMap (pageOf c) (upFrom before many)
-
 abbrev Inv-loop : tie.InvT-loop
-Inv-loop table many keys tags output₀ constants pages before₀ end₀ output before end =
-    (before ≤ pages) × Ongoing output₀ 0 (pagesOf (contentsOf many table)) (pagesFrom (contentsOf many table) before (pages - before)) output end
+Inv-loop keys tags rank count leader output₀ pages before₀ end₀ output before end =
+    (before ≤ pages)
+    × Ongoing output₀ 0 (shownPages keys tags rank count leader) (flatMap (shownPage keys tags rank count leader) (upFrom before (pages - before))) output end
 
 abbrev μ-loop : tie.MeasureT-loop
-μ-loop table many keys tags output₀ constants pages before₀ end₀ output before end = pages - before
+μ-loop keys tags rank count leader output₀ pages before₀ end₀ output before end = pages - before
 
 module _ (start : tie.Start Inv-loop μ-loop) where
-  abbrev held : Contents
-  held = contentsOf (start .args .many) (start .args .table .now)
+  -- A page, and so many from how many come before them; what of all is still to be written, where and into what.
+  abbrev page : ℕ → List ℕ
+  page = shownPage (start .args .keys .now) (start .args .tags .now) (start .args .rank .now) (start .args .count .now) (start .args .leader .now)
 
-  -- What of the pages is still to be written, where and into what.
+  abbrev pagesFrom : ℕ → ℕ → List ℕ
+  pagesFrom before many = flatMap page (upFrom before many)
+
+  abbrev all : List ℕ
+  all = shownPages (start .args .keys .now) (start .args .tags .now) (start .args .rank .now) (start .args .count .now) (start .args .leader .now)
+
   abbrev Left : List ℕ → List ℕ → ℕ → Type 0
-  Left = Ongoing (start .args .output .now) 0 (pagesOf held)
+  Left = Ongoing (start .args .output .now) 0 all
 
-  room : 0 + length (pagesOf held) ≤ length (start .args .output .now)
+  room : 0 + length all ≤ length (start .args .output .now)
   room = omega (arith, start .pre .1)
 
--- as many as the keys take
-counted : (c : tie.After-page-count Inv-loop μ-loop) → pageCount (length (keysIn (held (c .before .before .before .before .before)))) ≡ c .page-count .result
-counted c = let start = c .before .before .before .before .before in ap (λ (ks : List ℕ). pageCount (length ks)) (sym (start .pre .0 .0 .keys-are)) ∙ sym (c .page-count .ensures)
+  few : length (start .args .keys .now) ≤ 4096
+  few = start .pre .0 .few
 
-at-first : (c : tie.After-page-count Inv-loop μ-loop) → Left (c .before .before .before .before .before) (pagesFrom (held (c .before .before .before .before .before)) 0 (c .page-count .result - 0)) (c .before .before .before .before .before .args .output .now) 0
-unfolding pagesOf
+at-first : (c : tie.After-page-count Inv-loop μ-loop) → let start = c .before .before .before .before .before .before .before in Left start (pagesFrom start 0 (c .page-count .result - 0)) (start .args .output .now) 0
+unfolding shownPages
 at-first c =
-    let start = c .before .before .before .before .before in
-    let all : c .page-count .result ≡ c .page-count .result - 0 = omega arith in
-    subst (λ (many : ℕ). Left start (pagesFrom (held start) 0 many) (start .args .output .now) 0) (counted c ∙ all) (ongoing-none _ _ _)
+    let start = c .before .before .before .before .before .before .before in
+    let whole : c .page-count .result ≡ c .page-count .result - 0 = omega arith in
+    subst (λ (many : ℕ). Left start (pagesFrom start 0 many) (start .args .output .now) 0) (sym (c .page-count .ensures) ∙ whole) (ongoing-none _ _ _)
 
 -- ---- a turn
 abbrev begun : tie.In-loop Inv-loop μ-loop → tie.Start Inv-loop μ-loop
-begun t = t .before .before .before .before .before .before .before
+begun t = t .before .before .before .before .before .before .before .before .before
 
-abbrev pages : tie.In-loop Inv-loop μ-loop → ℕ
-pages t = t .before .before .page-count .result
-
--- The next page, and those after it.
-abbrev page : tie.In-loop Inv-loop μ-loop → List ℕ
-page t = pageOf (held (begun t)) (t .before .loop .before)
-
+-- The pages after the next.
 abbrev later : tie.In-loop Inv-loop μ-loop → List ℕ
-later t = pagesFrom (held (begun t)) (suc (t .before .loop .before)) (pages t - suc (t .before .loop .before))
+later t = pagesFrom (begun t) (suc (t .before .loop .before)) (t .before .before .page-count .result - suc (t .before .loop .before))
 
-turn : (t : tie.In-loop Inv-loop μ-loop) → Left (begun t) (page t ++ later t) (t .before .loop .output) (t .before .loop .end)
+turn : (t : tie.In-loop Inv-loop μ-loop) → Left (begun t) (page (begun t) (t .before .loop .before) ++ later t) (t .before .loop .output) (t .before .loop .end)
 unfolding flatMap
 turn t =
     let loop = t .before .loop in
-    let next : pages t - loop .before ≡ suc (pages t - suc (loop .before)) = omega (arith, t .loop-test .taken) in
-    subst (λ (many : ℕ). Left (begun t) (pagesFrom (held (begun t)) (loop .before) many) (loop .output) (loop .end)) next (loop .inv .1)
+    let pages = t .before .before .page-count .result in
+    let next : pages - loop .before ≡ suc (pages - suc (loop .before)) = omega (arith, t .loop-test .taken) in
+    subst (λ (many : ℕ). Left (begun t) (pagesFrom (begun t) (loop .before) many) (loop .output) (loop .end)) next (loop .inv .1)
 
 page-count-requires : tie.Need-page-count-requires Inv-loop μ-loop
-page-count-requires c κs = keys-few (c .before .before .before .before .pre .0 .0)
+page-count-requires c κs = few (c .before .before .before .before .before .before)
 
 loop-holds : tie.Need-loop-holds Inv-loop μ-loop
 loop-holds c = (omega arith, at-first c)
@@ -78,15 +72,16 @@ loop-holds c = (omega arith, at-first c)
 put-page-requires : tie.Need-put-page-requires Inv-loop μ-loop
 put-page-requires c κs =
     let t = c .before in
-    let start = begun t in
-    ((start .pre .0 .0, omega (arith, t .loop-test .taken, t .before .before .page-count .ensures), start .pre .0 .1), ongoing-fits (room start) (page t) (later t) (turn t))
+    let start = begun t in (
+      (start .pre .0, omega (arith, t .loop-test .taken, t .before .before .page-count .ensures)),
+      ongoing-fits (room start) (page start (t .before .loop .before)) (later t) (turn t),
+    )
 
 add-before : tie.Need-add-before Inv-loop μ-loop
 add-before c =
     let t = c .before .before .before .before in
     let start = begun t in
-    let few = keys-few (start .pre .0 .0) in
-    omega (arith, t .loop-test .taken, t .before .before .page-count .ensures, pages-reach (length (start .args .keys .now)))
+    omega (arith, t .loop-test .taken, t .before .before .page-count .ensures, few start, pages-reach (length (start .args .keys .now)))
 
 loop-less : tie.Need-loop-less Inv-loop μ-loop
 loop-less c = let test = c .before .before .before .before .loop-test .taken in omega arith
@@ -94,18 +89,19 @@ loop-less c = let test = c .before .before .before .before .loop-test .taken in 
 loop-again : tie.Need-loop-again Inv-loop μ-loop
 loop-again c =
     let t = c .before .before .before .before in
-    (omega (arith, t .loop-test .taken), rw add-one (ongoing-next (room (begun t)) (page t) (later t) (turn t) (c .before .before .put-page .ensures)))
+    let start = begun t in
+    (omega (arith, t .loop-test .taken), rw add-one (ongoing-next (room start) (page start (t .before .loop .before)) (later t) (turn t) (c .before .before .put-page .ensures)))
 
 same-length : tie.Need-same-length Inv-loop μ-loop
-same-length c = ongoing-size (room (c .before .before .before .before .before .before .before)) (c .before .loop .inv .1)
+same-length c = ongoing-size (room (c .before .before .before .before .before .before .before .before .before)) (c .before .loop .inv .1)
 
 returns : tie.Need-returns Inv-loop μ-loop
 unfolding flatMap
 returns c =
-    let start = c .before .before .before .before .before .before .before in
+    let start = c .before .before .before .before .before .before .before .before .before in
     let loop = c .before .loop in
     let none : c .before .before .page-count .result - loop .before ≡ 0 = omega (arith, c .loop-test .left) in
-    ongoing-all (subst (λ (many : ℕ). Left start (pagesFrom (held start) (loop .before) many) (loop .output) (loop .end)) none (loop .inv .1))
+    ongoing-all (subst (λ (many : ℕ). Left start (pagesFrom start (loop .before) many) (loop .output) (loop .end)) none (loop .inv .1))
 
 pub write-spec : {M : Type 1} → statement M
 write-spec =
