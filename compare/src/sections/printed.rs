@@ -7,7 +7,7 @@ use crate::call::Call;
 use crate::case::{Case, Tally};
 use crate::keys::Chain;
 use crate::measures::{measured, right};
-use crate::tables::{make_unsound, pages_length, set_in};
+use crate::tables::{make_unsound, pages_length};
 use reference::measure::{Measure, GREATEST_CORRECTION, LEAST_CORRECTION};
 use reference::{Set, MOST_SLOTS};
 
@@ -49,22 +49,38 @@ fn run(tally: &mut Tally) {
 /// So many keys, in as many slots and in more.
 fn each_output(case: &mut Case, number: usize, order: u64, share: fn(&mut Case) -> Measure) {
     let keys = case.random.keys(number);
-    let set: Set = keys.into_iter().map(|key| (key, share(case))).collect();
-    let more = number + 1 + case.random.below(100);
-    for slots in [number.max(1), more.min(MOST_SLOTS)] {
+    let measure = |&key: &u64| (key, share(case));
+    let set: Set = keys.iter().map(measure).collect();
+    let more = (number + 1 + case.random.below(100)).min(MOST_SLOTS);
+    for slots in [number.max(1), more] {
         case.lend_measured(slots, order, &set);
+        laid_out(case, &keys);
         outputs(case, number);
     }
 }
 
-/// Outputs of just the length, of less and of more. Less is also what would be right
-/// without the last key line, without the lines of pages, and for fewer pages.
+/// Into an output of just the length; the line of each page and each key stand where
+/// there is one for every 50 keys, and a key every 49 bytes.
+fn laid_out(case: &mut Case, keys: &[u64]) {
+    let room = pages_length(keys.len());
+    case.call_and_check(Call::Pages { room }, |outcome| {
+        let has = |at: usize, text: String| outcome.bytes[at..].starts_with(text.as_bytes());
+        let page = |i: usize| has(i * (10 + 50 * 49), format!("PAGE {:04}\n", i + 1));
+        let key = |i: usize| has(10 * (i / 50 + 1) + 49 * i, format!("{:016X} ", keys[i]));
+        let wrong = (0..keys.len()).find(|&i| !(page(i / 50) && key(i)));
+        let wrong = wrong.or((!page(0)).then_some(0));
+        wrong.map(|i| format!("the line of key {i} or of its page is elsewhere"))
+    });
+}
+
+/// More than the length; less by a byte, by the line of a page and by that of a key; and
+/// next to nothing.
 fn outputs(case: &mut Case, number: usize) {
     let length = pages_length(number);
-    for room in [length, length + 1, length + 10, length + 4_097] {
+    for room in [length + 1, length + 10, length + 4_097] {
         case.refused(Call::Pages { room }, 0);
     }
-    let fewer = [length - 1, length.saturating_sub(49), length - 10];
+    let fewer = [length - 1, length - 10, length.saturating_sub(49)];
     for room in fewer.into_iter().chain([0, 9]) {
         case.refused(Call::Pages { room }, 11);
     }
@@ -119,9 +135,11 @@ fn size_of(last: Measure) -> String {
 
 /// The last field of each key line.
 fn sizes_in(bytes: &[u8]) -> Vec<String> {
-    let text = String::from_utf8_lossy(bytes);
-    let lines = text.lines().filter(|line| line.len() == 48);
-    lines.map(|line| line[44..].to_string()).collect()
+    let lines = bytes.split(|&byte| byte == b'\n');
+    let fields = lines.filter_map(|line| line.get(44..));
+    fields
+        .map(|field| String::from_utf8_lossy(field).to_string())
+        .collect()
 }
 
 /// A chain: of order 3 it has ranks of four digits, of order 255 counts of three.
@@ -198,25 +216,6 @@ fn known(case: &mut Case) {
         case.lend_measured(1, 3, &[(key, measure)].into());
         exactly(case, &format!("PAGE 0001\n{line}\n"));
     }
-    fifty_and_one(case);
-}
-
-/// The first key of the second page, with the line of its page before it.
-fn fifty_and_one(case: &mut Case) {
-    let keys: Vec<u64> = (1..=51).collect();
-    exercise::lend_keys(case, 51, 3, &keys);
-    let set = set_in(&case.table);
-    let room = pages_length(51);
-    case.call_and_check(Call::Pages { room }, |outcome| {
-        let last = &outcome.bytes[10 + 50 * 49..];
-        let due = match set[&51].is_measured() {
-            true => size_of(set[&51]),
-            false => "   -".to_string(),
-        };
-        let is_due =
-            last.starts_with(b"PAGE 0002\n0000000000000033 ") && last[54..58] == *due.as_bytes();
-        (!is_due).then(|| format!("last bytes {:?}", String::from_utf8_lossy(last)))
-    });
 }
 
 fn exactly(case: &mut Case, due: &str) {
