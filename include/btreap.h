@@ -15,6 +15,8 @@
  *               btreap_points gives the size that a measure comes to.
  * The image.    15 + 14*b + 30*n + 6*m bytes for n keys in b blocks, m of the keys measured; no image is longer than
  *               BTREAP_LONGEST_IMAGE = 204,815 bytes.
+ * The pages.    A text to print and pin up, 50 keys a page: BTREAP_PAGES_BYTES(n) bytes for n keys, that is 49 for each key and 10 for
+ *               each page, of which there is one at least; BTREAP_LONGEST_PAGES = 201,524 for 4,096 keys.
  *
  * Any words, numbers and bytes may be handed in: each call replies, and a call that refuses changes none of the lent memory. `refusal` is
  * 0 when the call was accepted; all other numbers of a reply are 0 when it was refused, except the three of a step's place (next, high,
@@ -58,6 +60,8 @@ extern "C" {
 #define BTREAP_LEAST_ORDER 3
 #define BTREAP_GREATEST_ORDER 255
 #define BTREAP_LONGEST_IMAGE 204815
+#define BTREAP_PAGES_BYTES(keys) (49 * (size_t)(keys) + 10 * (((size_t)(keys) + 49) / 50 + ((keys) == 0)))
+#define BTREAP_LONGEST_PAGES 201524
 
 /* Measures, in hundredths of a millimetre; BTREAP_NOT_MEASURED is the length of a key that has none. */
 #define BTREAP_LEAST_LENGTH 10000
@@ -162,6 +166,20 @@ uint64_t btreap_read(uint64_t *table, size_t words, const uint8_t *image, size_t
 /* Write the text of an image at the start of out: a line for the header, each block and each key; size is its length in bytes, at most ten
  * times the image's, and later bytes of out are as they were. Refusals: 6, 11. */
 struct btreap_sized btreap_list(const uint8_t *image, size_t bytes, uint8_t *out, size_t out_bytes);
+
+/* Write the keys on pages, a text, at the start of out; size is its length in bytes, and later bytes of out are as they were. The keys
+ * rise, 50 of them on each page; the last page has those that are left, one at least. Without keys there is one page with no key lines.
+ * BTREAP_PAGES_BYTES(n) bytes are the text of n keys, and BTREAP_PAGES_BYTES(M) are enough for any table of M slots:
+ *
+ *     PAGE 0001
+ *     0000000000000008    0    2 0000000000000029    -
+ *     0000000000000029    1    1 0000000000000BB8 46.5
+ *     0000000000000BB8    2    1 0000000000000000    -
+ *
+ * A key's line has the key, its rank, its count, its leader, which is zero for the root, and its size in Paris points, two half points
+ * being one; a hyphen when it is not measured. Keys have 16 hexadecimal digits, letters capital; the other three have 4 characters,
+ * spaces in front. Every line ends in a line feed. Refusals: 1, 7, 11. */
+struct btreap_sized btreap_pages(const uint64_t *table, size_t words, uint8_t *out, size_t out_bytes);
 
 /* The size of a last, the form that a shoe is made on, with this measure. It is in half points: two of them are a Paris point, two thirds
  * of a centimetre, so that size 40.0 is 80 half points. With t the length plus the correction, half_points is 3*t/1,000 rounded to the

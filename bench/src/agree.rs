@@ -9,7 +9,7 @@ use crate::points;
 use btreap::{Found, Measure, Refusal, Size};
 use reference::{fast, measure};
 
-/// Ends the run where a table, an image, a listing, a question or a reply differs.
+/// Ends the run where a table, an image, a listing, a page, a question or a reply differs.
 pub fn check(case: &Case, table: &[u64], image: &[u8]) {
     let mut other = vec![0; table.len()];
     check_build(case, &Measures::of(case.keys.len(), 1), &mut other);
@@ -22,6 +22,7 @@ pub fn check(case: &Case, table: &[u64], image: &[u8]) {
     let room = 100 * (case.keys.len() + 1);
     let text = output(room, |out| fast::list(image, out).length);
     assert!(text == output(room, |out| btreap::list(image, out).map_or(0, |n| n as u64)));
+    check_pages(table, case.keys.len());
     check_batch(table, &case.batch);
     for &key in case.held.iter().chain(&case.absent) {
         check_look_up(table, key);
@@ -84,6 +85,17 @@ fn check_build(case: &Case, measures: &Measures, table: &mut [u64]) {
     assert_eq!(reply, Ok(()));
     fast::build(table, ORDER, &case.keys, lengths, corrections);
     assert!(one == table, "build differs");
+}
+
+/// Both write the same pages of so many keys.
+fn check_pages(table: &[u64], keys: usize) {
+    let room = btreap::pages_bytes(keys);
+    let text = output(room, |out| fast::pages(table, out).length);
+    assert_eq!(text.len(), room);
+    assert!(
+        text == output(room, |out| btreap::pages(table, out)
+            .map_or(0, |n| n as u64))
+    );
 }
 
 /// The bytes that a call writes, as many as it says.

@@ -65,6 +65,7 @@ fn depths(keys: &[u64]) -> Vec<(&'static str, usize)> {
     image.truncate(length);
     depth_of("read", &mut || done(btreap::read(t, &image)));
     depth_of("list", &mut || done(btreap::list(&image, &mut text)));
+    depth_of("pages", &mut || done(btreap::pages(t, &mut text)));
     depth_of("points", &mut || done(btreap::points(measure)));
     depths
 }

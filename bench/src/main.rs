@@ -9,6 +9,7 @@ mod clock;
 mod depths;
 mod load;
 mod measures;
+mod pages;
 mod plain;
 mod points;
 mod report;

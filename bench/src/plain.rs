@@ -68,6 +68,23 @@ impl Plain {
         self.set = bytes.chunks_exact(ENTRY_BYTES).map(deserialised).collect();
     }
 
+    /// Fifty keys on each page, a line for each key with its size.
+    pub fn pages(&self, text: &mut String) {
+        text.clear();
+        for (place, (key, measure)) in self.set.iter().enumerate() {
+            if place % 50 == 0 {
+                writeln!(text, "PAGE {:04}", place / 50 + 1).expect("a string takes any text");
+            }
+            let t = measure.length as i64 + i64::from(measure.correction);
+            let half_points = (3 * t + 500) / 1_000;
+            match half_points {
+                0 => writeln!(text, "{key:016X}    -"),
+                _ => writeln!(text, "{key:016X} {:4.1}", half_points as f64 / 2.0),
+            }
+            .expect("a string takes any text");
+        }
+    }
+
     /// A line for each key.
     pub fn listing(&self, text: &mut String) {
         text.clear();

@@ -91,6 +91,7 @@ impl<'a> Lent<'a> {
             self.write(),
             self.read(),
             self.list(),
+            self.pages(),
         ]
     }
 

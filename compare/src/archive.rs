@@ -94,6 +94,7 @@ impl Lent {
                 Call::Write { room } => sized(sys::btreap_write(t, n, bytes, room)),
                 Call::Read { .. } => plain(sys::btreap_read(t, n, image, length)),
                 Call::List { room, .. } => sized(sys::btreap_list(image, length, bytes, room)),
+                Call::Pages { room } => sized(sys::btreap_pages(t, n, bytes, room)),
                 Call::Points { measure: m } => pointed(sys::btreap_points(m.length, m.correction)),
             }
         };

@@ -1,4 +1,4 @@
-//! The thirteen calls, each with all that it is given but the table.
+//! The fourteen calls, each with all that it is given but the table.
 
 use crate::list::List;
 use crate::pages::Access;
@@ -48,6 +48,7 @@ pub enum Call {
     Write { room: usize },
     Read { image: Vec<u8> },
     List { image: Vec<u8>, room: usize },
+    Pages { room: usize },
     Points { measure: Measure },
 }
 
@@ -71,7 +72,8 @@ impl Call {
             Call::Load { .. } | Call::Insert { .. } | Call::Delete { .. } => Access::Write,
             Call::LookUp { .. } | Call::LookUpBatch { .. } => Access::Read,
             Call::Range { .. } | Call::Step { .. } => Access::Read,
-            Call::Write { .. } | Call::List { .. } | Call::Points { .. } => Access::Read,
+            Call::Write { .. } | Call::List { .. } | Call::Pages { .. } => Access::Read,
+            Call::Points { .. } => Access::Read,
         }
     }
 
@@ -117,7 +119,7 @@ impl Call {
     /// The output bytes as they are lent; neighbours differ.
     pub fn output_bytes(&self) -> Vec<u8> {
         let room = match self {
-            Call::Write { room } | Call::List { room, .. } => *room,
+            Call::Write { room } | Call::List { room, .. } | Call::Pages { room } => *room,
             _ => 0,
         };
         (0..room).map(|i| (i * 101 + 0xA5) as u8).collect()
@@ -154,6 +156,7 @@ impl fmt::Debug for Call {
             Call::List { image, room } => {
                 write!(out, "list {} into {room} bytes", short_bytes(image))
             }
+            Call::Pages { room } => write!(out, "pages into {room} bytes"),
             Call::Points { measure } => write!(out, "points, {}", in_words(*measure)),
         }
     }

@@ -7,20 +7,21 @@ use crate::list::List;
 use crate::measures::{self, random_set, spoil_measures};
 use crate::outcome::Outcome;
 use crate::random::Random;
-use crate::tables::{image_length, keys_in, listing_length, measured_image, set_in};
+use crate::tables::{image_length, keys_in, listing_length, measured_image, pages_length, set_in};
 
 /// How many of a hundred calls are of each kind.
-const SHARES: [(usize, Kind); 13] = [
-    (19, Kind::Insert),
-    (16, Kind::Delete),
+const SHARES: [(usize, Kind); 14] = [
+    (18, Kind::Insert),
+    (15, Kind::Delete),
     (9, Kind::Step),
     (10, Kind::LookUp),
-    (8, Kind::Range),
+    (7, Kind::Range),
     (6, Kind::LookUpBatch),
-    (8, Kind::Write),
+    (7, Kind::Write),
     (7, Kind::Read),
     (6, Kind::Build),
     (5, Kind::List),
+    (4, Kind::Pages),
     (2, Kind::SetUp),
     (2, Kind::Load),
     (2, Kind::Points),
@@ -40,6 +41,7 @@ enum Kind {
     Write,
     Read,
     List,
+    Pages,
     Points,
 }
 
@@ -104,6 +106,9 @@ impl Generator {
                 image: self.image(table, random),
             },
             Kind::List => self.list_image(random),
+            Kind::Pages => Call::Pages {
+                room: room(pages_length(held.len()), random),
+            },
             Kind::Points => Call::Points {
                 measure: measures::any(4, random),
             },

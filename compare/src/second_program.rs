@@ -27,6 +27,7 @@ pub fn run_second_program(call: &Call, table: &[u64]) -> Outcome {
         Call::Write { .. } => sized(REAL.write_image(table, &mut after.bytes)),
         Call::Read { image } => plain(REAL.read_image(&mut after.table, image)),
         Call::List { image, .. } => sized(REAL.list(image, &mut after.bytes)),
+        Call::Pages { .. } => sized(REAL.pages(table, &mut after.bytes)),
         Call::Points { measure } => pointed(points(*measure)),
     };
     after

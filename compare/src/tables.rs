@@ -47,6 +47,12 @@ pub fn listing_length(order: u64, keys: &[u64]) -> usize {
     listing::listing(&priority, &Contents::unmeasured(order, keys)).len()
 }
 
+/// The length of the pages of so many keys: 10 bytes for each page, of which there is
+/// one at least, and 49 for each key.
+pub fn pages_length(keys: usize) -> usize {
+    10 * ((keys + 49) / 50).max(1) + 49 * keys
+}
+
 /// How many blocks an order and rising keys have, as their image says.
 pub fn blocks_of(order: u64, keys: &[u64]) -> u64 {
     let image = image_of(order, keys);

@@ -11,11 +11,11 @@ use compare::case::{Plan, Tally};
 use compare::outcome::{differences, refusal_faults, Outcome};
 use compare::run::{is_good, Total, FEWEST_CALLS};
 use compare::second_program::run_second_program;
-use compare::tables::listing_length;
+use compare::tables::{listing_length, pages_length};
 use reference::measure::Measure;
 
 /// One of each kind that is refused, on a table that is not one.
-fn refused_calls() -> [Call; 13] {
+fn refused_calls() -> [Call; 14] {
     let mut calls = accepted_calls();
     calls[9] = Call::List {
         image: vec![0; 20],
@@ -96,8 +96,8 @@ fn each_wrong_number_of_a_reply_is_caught() {
             outcome.reply.numbers.push(("more", 0))
         });
     }
-    // Insert, delete, look-up, batch, range, step, writing, listing, points, twice.
-    assert_eq!(fields, 2 * (1 + 1 + 7 + 1 + 1 + 2 + 1 + 1 + 3));
+    // Insert, delete, look-up, batch, range, step, writing, listing, pages, points, twice.
+    assert_eq!(fields, 2 * (1 + 1 + 7 + 1 + 1 + 2 + 1 + 1 + 1 + 3));
 }
 
 /// A correction below zero is compared by all its bits.
@@ -166,7 +166,8 @@ fn each_wrong_output_cell_is_caught_written_or_beyond() {
             cells[1] += 1;
         }
     }
-    assert_eq!(cells, [6, 400 + listing_length(3, &KEYS) + 4]);
+    let (listing, pages) = (listing_length(3, &KEYS), pages_length(KEYS.len()));
+    assert_eq!(cells, [6, 400 + listing + 4 + pages + 6]);
     let last = |outcome: &mut Outcome| *outcome.bytes.last_mut().unwrap() ^= 1;
     caught(&Call::Write { room: 30 }, &table, last);
 }

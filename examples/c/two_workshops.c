@@ -125,6 +125,15 @@ static void compare_loads(void)
     printf("images agree: %s\n", sent.size == kept.size && memcmp(one, other, sent.size) == 0 ? "yes" : "no");
 }
 
+/* The five keys on a page, to be pinned up. */
+static void print_pages(const uint64_t *table)
+{
+    static uint8_t text[BTREAP_PAGES_BYTES(5)];
+    struct btreap_sized printed = btreap_pages(table, WORDS, text, sizeof text);
+    accept("pages", printed.refusal);
+    fwrite(text, 1, printed.size, stdout);
+}
+
 int main(void)
 {
     static uint64_t first[WORDS], second[WORDS], third[WORDS];
@@ -159,5 +168,6 @@ int main(void)
     fwrite(text, 1, listed.size, stdout);
 
     compare_loads();
+    print_pages(first);
     return 0;
 }

@@ -1,9 +1,9 @@
 //! The calls of document 01 and the load of document 02, each with its
 //! refusals, inserts, builds and lookups with the measures of document 02; its batch
-//! is in [`crate::batch`], its sizes are in [`crate::points`]. "A refusal returns its
-//! number, all other numbers zero, and changes no lent memory, the place included. The
-//! lowest number that applies is returned", but for 12, "checked straight after 5, on
-//! insert after 3".
+//! is in [`crate::batch`], its sizes are in [`crate::points`], its pages in
+//! [`crate::pages`]. "A refusal returns its number, all other numbers zero, and changes
+//! no lent memory, the place included. The lowest number that applies is returned", but
+//! for 12, "checked straight after 5, on insert after 3".
 
 use crate::blocks::blocks_met;
 use crate::image::{contents_of, image};
@@ -66,7 +66,7 @@ pub struct LookUpReply {
     pub measure: Measure,
 }
 
-/// Reply of range (the number of keys), writing (bytes) and listing (bytes).
+/// Reply of range (the number of keys), writing, listing and pages (bytes).
 #[derive(Clone, Copy, Debug, Default, PartialEq, Eq)]
 pub struct LengthReply {
     pub refusal: u64,
@@ -415,7 +415,7 @@ impl Index<'_> {
 
 /// Writes the result at the output's beginning and gives its length, or refuses
 /// with 11.
-fn write_first<T: Copy>(output: &mut [T], result: &[T]) -> Outcome<usize> {
+pub(crate) fn write_first<T: Copy>(output: &mut [T], result: &[T]) -> Outcome<usize> {
     refuse_if(output.len() < result.len(), OUTPUT_SHORT)?;
     output[..result.len()].copy_from_slice(result);
     Ok(result.len())

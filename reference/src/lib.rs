@@ -1,6 +1,6 @@
 //! The second program: the index of document 01 with the load, the batch, the
-//! measures and the sizes of document 02, written from these documents alone. Slow
-//! and literal; it is there to be compared with.
+//! measures, the sizes and the pages of document 02, written from these documents
+//! alone. Slow and literal; it is there to be compared with.
 //!
 //! The priority is a parameter of every definition, so that the document's
 //! examples, which write their own priorities, can be computed too.
@@ -13,8 +13,10 @@ pub mod image;
 pub mod listing;
 pub mod load;
 pub mod measure;
+pub mod pages;
 pub mod points;
 pub mod priority;
+pub mod program;
 pub mod random;
 pub mod shape;
 pub mod table;

@@ -3,14 +3,9 @@
 use crate::blocks::{blocks, fill};
 use crate::calls::Index;
 use crate::priority::Priority;
-use crate::table::{length_of_slots, shape_of};
+use crate::program::printed;
+use crate::table::shape_of;
 use crate::Contents;
-
-/// "The listing program reads an image on standard input, into 1,000 slots."
-pub const LISTING_SLOTS: usize = 1000;
-
-/// "More than 44,015 bytes prints `too long`"; "its byte limit becomes 50,015".
-pub const LONGEST_INPUT: usize = 50_015;
 
 /// "There is one line for the header, each block and each key, in image order;
 /// a block line shows the block's leader key, level and keys in it. Every line
@@ -46,15 +41,5 @@ pub fn listing(priority: Priority, contents: &Contents) -> String {
 
 /// All that the listing program prints for its standard input.
 pub fn program(index: &Index, input: &[u8]) -> String {
-    if input.len() > LONGEST_INPUT {
-        return "too long\n".to_string();
-    }
-    let mut table = vec![0; length_of_slots(LISTING_SLOTS)];
-    let reply = index.read_image(&mut table, input);
-    if reply.refusal != 0 {
-        // "a refusal prints `refused`, a space and its number"
-        return format!("refused {}\n", reply.refusal);
-    }
-    let contents = index.sound(&table).expect("just read");
-    listing(index.priority, &contents)
+    printed(index, input, |contents| listing(index.priority, contents))
 }

@@ -157,6 +157,17 @@ fn write(table: &[u64], room: usize) -> (u64, Vec<u8>) {
     (reply.refusal, bytes[..reply.length as usize].to_vec())
 }
 
+fn pages(table: &[u64], room: usize) -> u64 {
+    let output = vec![0xEE; room];
+    let (reply, text) = after(&output, |out| REAL.pages(table, out));
+    assert_eq!(
+        after(&output, |out| fast::pages(table, out)),
+        (reply, text),
+        "pages into {room}"
+    );
+    reply.refusal
+}
+
 fn read(table: &mut Vec<u64>, bytes: &[u8]) -> u64 {
     let (reply, words) = after(table, |t| REAL.read_image(t, bytes));
     assert_eq!(
@@ -193,7 +204,7 @@ fn steps(table: &[u64], mut place: Place) {
 fn play(random: &mut Random, table: &mut Vec<u64>, slots: u64) {
     let key = [0, random.key(2 * slots + 2), random.key(2 * slots + 2)][random.below(3) as usize];
     let other = random.key(2 * slots + 2);
-    match random.below(23) {
+    match random.below(25) {
         0..=5 => {
             let measure = random.any_measure();
             insert_measured(table, key, measure);
@@ -223,6 +234,8 @@ fn play(random: &mut Random, table: &mut Vec<u64>, slots: u64) {
             random.shuffle(&mut keys);
             look_up_batch(table, &keys);
         }
+        22 => drop(pages(table, 20 + 50 * slots as usize)),
+        23 => drop(pages(table, random.below(60 * slots) as usize)),
         _ => {
             let (order, count) = (2 + random.below(5), random.below(8 * slots));
             load(table, order, random.next(), count as u16);
@@ -431,6 +444,7 @@ fn great_table(slots: usize, order: u64, keys: &[u64]) {
     assert_eq!(range(&table, 0, u64::MAX, keys.len()), 0);
     assert_eq!(range(&table, keys[3], keys[9], 7), 0);
     step(&table, Place::new(keys[5] + 1, u64::MAX));
+    assert_eq!(pages(&table, 10 + 50 * slots), 0);
     let (refusal, bytes) = write(&table, 15 + 50 * slots);
     assert_eq!(refusal, 0);
     assert_eq!(list(&bytes, 100 * keys.len() + 100), 0);
@@ -449,6 +463,7 @@ fn judged(table: &[u64]) -> u64 {
     step(table, Place::WHOLE);
     step(table, Place::SPENT);
     write(table, 60 * table.len());
+    pages(table, 60 * table.len());
     insert(&mut table.to_vec(), 6);
     insert_measured(&mut table.to_vec(), 6, Measure::new(26_500, -17));
     delete(&mut table.to_vec(), 6);
@@ -685,6 +700,7 @@ fn wrong_lengths() {
         assert_eq!(range(&wrong, 2, 1, 0), 1);
         assert_eq!(step(&wrong, Place::SPENT).0, 1);
         assert_eq!(write(&wrong, 0).0, 1);
+        assert_eq!(pages(&wrong, 0), 1);
         assert_eq!(read(&mut wrong, &[]), 1);
     }
 }
@@ -772,6 +788,8 @@ fn refusals_by_the_state() {
     let (_, bytes) = write(&table, 1_000);
     assert_eq!(write(&table, bytes.len() - 1).0, 11);
     assert_eq!(write(&table, bytes.len()).0, 0);
+    assert_eq!(pages(&table, 10 + 2 * 49 - 1), 11);
+    assert_eq!(pages(&table, 10 + 2 * 49), 0);
     let length = REAL.list(&bytes, &mut [0; 1_000]).length as usize;
     assert_eq!(list(&bytes, length - 1), 11);
     assert_eq!(list(&bytes, length), 0);

@@ -7,9 +7,10 @@ use common::{measure_bytes, Random, WRONG};
 use reference::calls::{LookUpReply, PlainReply, RankReply, REAL};
 use reference::fast;
 use reference::image::{contents_of, image};
-use reference::listing::{listing, program, LONGEST_INPUT};
+use reference::listing::{listing, program};
 use reference::measure::Measure;
 use reference::priority::priority;
+use reference::program::LONGEST_INPUT;
 use reference::table::{length_of_slots, slots_of_length, words};
 use reference::{Contents, Set};
 

@@ -181,6 +181,7 @@ fn refused_as_unsound(table: &mut [u64]) {
     assert_eq!(REAL.look_up(table, 5), refused);
     assert_eq!(REAL.range(table, 0, 0, &mut []).refusal, 7);
     assert_eq!(REAL.write_image(table, &mut []).refusal, 7);
+    assert_eq!(REAL.pages(table, &mut []).refusal, 7);
     assert_eq!(REAL.step(table, Place::WHOLE).0.refusal, 7);
 }
 

@@ -17,10 +17,12 @@
 use std::fmt;
 
 mod measure;
+mod pages;
 mod size;
 pub mod sys;
 
 pub use measure::Measure;
+pub use pages::{pages, pages_bytes, LONGEST_PAGES};
 pub use size::Size;
 pub use sys::Question;
 

@@ -22,7 +22,7 @@ pub struct FoundReply {
     pub correction: i64,
 }
 
-/// The reply of a batch, a range, a writing or a listing.
+/// The reply of a batch, a range, a writing, a listing or pages.
 #[repr(C)]
 #[derive(Clone, Copy, Debug, PartialEq, Eq)]
 pub struct SizedReply {
@@ -86,5 +86,6 @@ extern "C" {
     pub fn btreap_write(table: *const u64, words: usize, out: *mut u8, out_bytes: usize) -> SizedReply;
     pub fn btreap_read(table: *mut u64, words: usize, image: *const u8, bytes: usize) -> u64;
     pub fn btreap_list(image: *const u8, bytes: usize, out: *mut u8, out_bytes: usize) -> SizedReply;
+    pub fn btreap_pages(table: *const u64, words: usize, out: *mut u8, out_bytes: usize) -> SizedReply;
     pub fn btreap_points(length: u64, correction: i32) -> PointedReply;
 }

@@ -8,7 +8,9 @@ use crate::case::{Case, Tally};
 use crate::keys::{keys_with_home, Chain};
 use crate::measures;
 use crate::random::Random;
-use crate::tables::{is_measure_word, keys_in, measured_table, slot_start, slots_of, sound_table};
+use crate::tables::{
+    is_measure_word, keys_in, measured_table, pages_length, slot_start, slots_of, sound_table,
+};
 use reference::measure::Measure;
 use reference::priority::TIES;
 use reference::table::SLOT_WORDS;
@@ -168,7 +170,7 @@ pub fn each_call(case: &mut Case, keys: &[u64], damaged: &[u64]) {
 
 /// One call of each kind that asks for soundness, the keys being held in the
 /// table as it was.
-fn calls(keys: &[u64], random: &mut Random) -> [Call; 7] {
+fn calls(keys: &[u64], random: &mut Random) -> [Call; 8] {
     let held = match keys {
         [] => 1,
         _ => random.pick(keys),
@@ -194,6 +196,9 @@ fn calls(keys: &[u64], random: &mut Random) -> [Call; 7] {
         },
         Call::Write {
             room: 15 + 50 * (keys.len() + 1),
+        },
+        Call::Pages {
+            room: pages_length(keys.len() + 1),
         },
     ]
 }

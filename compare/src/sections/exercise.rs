@@ -4,7 +4,9 @@ use crate::call::{Call, Place};
 use crate::case::Case;
 use crate::list::List;
 use crate::measures::{self, random_set};
-use crate::tables::{image_length, keys_in, listing_length, measured_image, table_length};
+use crate::tables::{
+    image_length, keys_in, listing_length, measured_image, pages_length, table_length,
+};
 use reference::Set;
 
 /// Lends words that are no table's.
@@ -35,6 +37,14 @@ pub fn write(case: &mut Case) {
     case.refused(Call::Write { room: length }, 0);
     case.refused(Call::Write { room: length - 1 }, 11);
     case.refused(Call::Write { room: length + 7 }, 0);
+}
+
+/// Prints the table's keys on pages, into outputs of the same three lengths.
+pub fn pages(case: &mut Case) {
+    let length = pages_length(keys_in(&case.table).len());
+    case.refused(Call::Pages { room: length }, 0);
+    case.refused(Call::Pages { room: length - 1 }, 11);
+    case.refused(Call::Pages { room: length + 7 }, 0);
 }
 
 /// Reads the image of an order and the keys, measured or not, over rubbish; the table
@@ -119,6 +129,7 @@ pub fn everything(case: &mut Case, slots: usize, order: u64, keys: &[u64]) {
     build(case, slots, order, keys);
     if keys.len() <= slots {
         write(case);
+        pages(case);
         whole_range(case);
         steps(case, Place::WHOLE, keys.len() + 2);
     }

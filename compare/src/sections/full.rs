@@ -30,6 +30,7 @@ fn filled(case: &mut Case, slots: usize) {
     let held = case.random.pick(&keys);
     exercise::build(case, slots, order, &keys);
     exercise::write(case);
+    exercise::pages(case);
     exercise::whole_range(case);
     exercise::look_up(case, &[held, fresh]);
     exercise::insert(case, held, 8);

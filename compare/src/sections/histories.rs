@@ -1,4 +1,4 @@
-//! Random histories: a set-up or a load over any words, then calls of all thirteen
+//! Random histories: a set-up or a load over any words, then calls of all fourteen
 //! kinds on one table.
 
 use super::{exercise, Section, SLOTS};

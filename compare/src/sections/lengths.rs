@@ -41,7 +41,7 @@ fn each_call(case: &mut Case, length: usize) {
 }
 
 /// One of each kind that a blank table of any length accepts.
-fn sensible_calls() -> [Call; 10] {
+fn sensible_calls() -> [Call; 11] {
     [
         Call::SetUp { order: 255 },
         Call::build(4, &[7]),
@@ -67,6 +67,7 @@ fn sensible_calls() -> [Call; 10] {
             place: Place::WHOLE,
         },
         Call::Write { room: 20 },
+        Call::Pages { room: 20 },
         Call::Read {
             image: measured_image(9, &[(3, Measure::new(40_000, 5_000))].into()),
         },
@@ -106,7 +107,7 @@ fn nothing_for_a_list(case: &mut Case) {
     }
 }
 
-/// Batches, ranges and images that are empty or have nowhere to go.
+/// Batches, ranges, images and pages that are empty or have nowhere to go.
 fn nothing_for_a_table(case: &mut Case, keys: &[u64]) {
     case.lend_sound(2, 3, keys);
     let nowhere = if keys.is_empty() { 0 } else { 11 };
@@ -116,5 +117,6 @@ fn nothing_for_a_table(case: &mut Case, keys: &[u64]) {
     }
     case.refused(Call::LookUpBatch { keys: vec![] }, 0);
     case.refused(Call::Write { room: 0 }, 11);
+    case.refused(Call::Pages { room: 0 }, 11);
     case.refused(Call::Read { image: vec![] }, 6);
 }

@@ -128,6 +128,7 @@ fn long_output(case: &mut Case, slots: usize) {
     let (low, high) = (0, u64::MAX);
     case.refused(Call::Range { low, high, room }, 0);
     case.refused(Call::Write { room }, 0);
+    case.refused(Call::Pages { room }, 0);
     let image = measured_image(order, &set_in(&case.table));
     case.refused(Call::List { image, room }, 0);
 }

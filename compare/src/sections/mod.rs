@@ -20,6 +20,7 @@ mod loads;
 mod long;
 mod measures;
 mod points;
+mod printed;
 mod refusals;
 mod sets;
 mod shapes;
@@ -37,7 +38,7 @@ pub struct Section {
 }
 
 /// All sections; the longest first, so that threads finish together.
-pub const SECTIONS: [Section; 24] = [
+pub const SECTIONS: [Section; 25] = [
     loads::SECTION,
     batches::SECTION,
     histories::SECTION,
@@ -55,6 +56,7 @@ pub const SECTIONS: [Section; 24] = [
     points::SECTION,
     measures::SECTION,
     damaged_measures::SECTION,
+    printed::SECTION,
     listings::SECTION,
     refusals::SECTION,
     lengths::SECTION,

@@ -13,7 +13,7 @@ use crate::measures::{spoil_measures, CORNERS, WRONG};
 use crate::random::Random;
 use crate::tables::{
     image_length, length_word, listing_length, make_unsound, measured_image, measured_table,
-    slot_start, sound_table,
+    pages_length, slot_start, sound_table,
 };
 use reference::measure::Measure;
 use reference::Set;
@@ -81,7 +81,7 @@ struct Kind {
     call: fn(&Faults) -> Call,
 }
 
-const KINDS: [Kind; 13] = [
+const KINDS: [Kind; 14] = [
     Kind {
         refusals: &[1, 2],
         call: set_up,
@@ -129,6 +129,10 @@ const KINDS: [Kind; 13] = [
     Kind {
         refusals: &[6, 11],
         call: list,
+    },
+    Kind {
+        refusals: &[1, 7, 11],
+        call: pages,
     },
     Kind {
         refusals: &[12],
@@ -338,6 +342,13 @@ fn list(faults: &Faults) -> Call {
     let short = faults.pick(&[length - 1, 0, 20]);
     let room = faults.choose(11, short, length + faults.way % 3);
     Call::List { image, room }
+}
+
+fn pages(faults: &Faults) -> Call {
+    let length = pages_length(FEW.len());
+    let short = faults.pick(&[length - 1, 0, 9, 10, 59]);
+    let room = faults.choose(11, short, length + faults.way % 3);
+    Call::Pages { room }
 }
 
 fn points(faults: &Faults) -> Call {

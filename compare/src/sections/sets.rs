@@ -26,6 +26,7 @@ fn run(tally: &mut Tally) {
                 let keys = case.random.keys(number);
                 exercise::build(case, slots, order, &keys);
                 exercise::write(case);
+                exercise::pages(case);
                 exercise::read(case, slots, order, &keys);
                 exercise::list(case, order, &keys);
                 questions(case, &keys);

@@ -6,7 +6,7 @@ use super::{exercise, Section};
 use crate::batches::with_neighbours;
 use crate::call::{Call, Place};
 use crate::case::{Case, Tally};
-use crate::tables::{listing_length, measured_image, set_in};
+use crate::tables::{listing_length, measured_image, pages_length, set_in};
 use reference::MOST_SLOTS;
 
 pub const SECTION: Section = Section { name: "sizes", run };
@@ -80,6 +80,8 @@ fn outputs(case: &mut Case, order: u64, keys: &[u64]) {
     let image = measured_image(order, &set_in(&case.table));
     let room = image.len();
     case.refused(Call::Write { room }, 0);
+    let room = pages_length(keys.len());
+    case.refused(Call::Pages { room }, 0);
     let room = listing_length(order, keys);
     case.refused(Call::List { image, room }, 0);
 }

@@ -2,7 +2,7 @@
 
 use compare::call::{Call, Place};
 use compare::list::List;
-use compare::tables::{listing_length, measured_image, measured_table};
+use compare::tables::{listing_length, measured_image, measured_table, pages_length};
 use reference::measure::Measure;
 use reference::Set;
 
@@ -31,7 +31,7 @@ fn list() -> List {
 }
 
 /// One of each kind that is accepted, outputs longer than needed.
-pub fn accepted_calls() -> [Call; 13] {
+pub fn accepted_calls() -> [Call; 14] {
     let (image, room) = (measured_image(3, &set()), listing_length(3, &KEYS) + 4);
     let (place, measure) = (Place::WHOLE, Measure::new(26_500, 0));
     [
@@ -66,5 +66,8 @@ pub fn accepted_calls() -> [Call; 13] {
             keys: vec![3, 4, 21, u64::MAX],
         },
         Call::Points { measure },
+        Call::Pages {
+            room: pages_length(KEYS.len()) + 6,
+        },
     ]
 }

@@ -116,6 +116,14 @@ fn compare_loads() -> Result<(), Refusal> {
     Ok(())
 }
 
+/// The five keys on a page, to be pinned up.
+fn print_pages(table: &[u64]) -> Result<(), Refusal> {
+    let mut text = vec![0; btreap::pages_bytes(5)];
+    let size = btreap::pages(table, &mut text)?;
+    print!("{}", String::from_utf8_lossy(&text[..size]));
+    Ok(())
+}
+
 fn main() -> Result<(), Refusal> {
     let mut first = vec![0; btreap::table_words(SLOTS)];
     let mut second = first.clone();
@@ -147,5 +155,6 @@ fn main() -> Result<(), Refusal> {
     let size = btreap::list(&kept, &mut text)?;
     print!("{}", String::from_utf8_lossy(&text[..size]));
 
-    compare_loads()
+    compare_loads()?;
+    print_pages(&first)
 }

@@ -77,7 +77,7 @@ fn put_text(rest: &mut &mut [u8], text: &str) {
 
 /// "16 hexadecimal digits, letters capital": the sixteen half bytes spread over
 /// sixteen bytes, then 7 more for each that is above 9.
-fn hexadecimal(key: u64) -> [u8; KEY_DIGITS] {
+pub fn hexadecimal(key: u64) -> [u8; KEY_DIGITS] {
     let mut wide = u128::from(key);
     for (shift, mask) in [
         (32, 0x0000_0000_FFFF_FFFF_0000_0000_FFFF_FFFF),

@@ -17,6 +17,7 @@ mod judged;
 mod listing;
 mod load;
 mod node;
+mod pages;
 mod placed;
 mod points;
 mod reader;
@@ -274,6 +275,19 @@ fn try_list(bytes: &[u8], output: &mut [u8]) -> Outcome<usize> {
     refuse_if(!layout.is_image(bytes), IMAGE)?;
     let length = listing::length(&layout);
     listing::write(&layout, output.get_mut(..length).ok_or(OUTPUT_SHORT)?);
+    Ok(length)
+}
+
+/// "the checks are 1, 7, 11"
+pub fn pages(table: &[u64], output: &mut [u8]) -> LengthReply {
+    length(try_pages(table, output))
+}
+
+fn try_pages(table: &[u64], output: &mut [u8]) -> Outcome<usize> {
+    length_of(table)?;
+    let judged = sound(table)?;
+    let length = pages::length(judged.number());
+    pages::write(&judged, output.get_mut(..length).ok_or(OUTPUT_SHORT)?);
     Ok(length)
 }
 

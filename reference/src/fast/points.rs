@@ -27,6 +27,6 @@ pub fn size(measure: Measure) -> Outcome<PointsReply> {
 
 /// So many thousandths to the nearest whole number, a half going up.
 #[inline(always)]
-fn nearest(thousandths: u32) -> u32 {
+pub fn nearest(thousandths: u32) -> u32 {
     (thousandths + 500) / 1_000
 }
