@@ -172,9 +172,9 @@ struct btreap_sized btreap_list(const uint8_t *image, size_t bytes, uint8_t *out
  * BTREAP_PAGES_BYTES(n) bytes are the text of n keys, and BTREAP_PAGES_BYTES(M) are enough for any table of M slots:
  *
  *     PAGE 0001
- *     0000000000000008    0    2 0000000000000029    -
- *     0000000000000029    1    1 0000000000000BB8 46.5
- *     0000000000000BB8    2    1 0000000000000000    -
+ *     0000000000000005    1    1 0000000000000000 39.5
+ *     0000000000000007    0    1 0000000000000005  7.5
+ *     0000000000000009    0    2 0000000000000005    -
  *
  * A key's line has the key, its rank, its count, its leader, which is zero for the root, and its size in Paris points, two half points
  * being one; a hyphen when it is not measured. Keys have 16 hexadecimal digits, letters capital; the other three have 4 characters,
