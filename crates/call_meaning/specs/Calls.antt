@@ -168,21 +168,34 @@ unfoldable pub rangeOutput : List ℕ → ℕ → ℕ → List ℕ → List ℕ
 rangeOutput words low high output =
     unlessRefused (rangeRefusal words low high output) (overwrite output 0 (within low high (keysIn (shown words)))) output
 
--- "Writer 1, 7, 11."
-unfoldable pub writeRefusal : List ℕ → List ℕ → ℕ
-writeRefusal words output =
-    firstThatApplies (wrongLength words ∷ notSound words ∷ outputTooShort (length output) (length (imageOf (shown words))) ∷ [])
+-- ---- a text of what the table shows, written at the start of an output
+-- "Writer 1, 7, 11" (01); the printed pages' "checks are 1, 7, 11" (02, N6).
+module _ (text : Contents → List ℕ) where
+  unfoldable pub textRefusal : List ℕ → List ℕ → ℕ
+  textRefusal words output =
+      firstThatApplies (wrongLength words ∷ notSound words ∷ outputTooShort (length output) (length (text (shown words))) ∷ [])
 
--- "The writer gives it", the image's length, "and changes no later output byte."
-unfoldable pub writeReply : List ℕ → List ℕ → Reply
-writeReply words output =
-    record {
-      refusal = writeRefusal words output;
-      numbers = unlessRefused (writeRefusal words output) (length (imageOf (shown words)) ∷ []) (0 ∷ []);
-    }
+  -- The text's length.
+  unfoldable pub textReply : List ℕ → List ℕ → Reply
+  textReply words output =
+      record {
+        refusal = textRefusal words output;
+        numbers = unlessRefused (textRefusal words output) (length (text (shown words)) ∷ []) (0 ∷ []);
+      }
 
-unfoldable pub writeOutput : List ℕ → List ℕ → List ℕ
-writeOutput words output = unlessRefused (writeRefusal words output) (overwrite output 0 (imageOf (shown words))) output
+  -- Later bytes of the output stay.
+  unfoldable pub textOutput : List ℕ → List ℕ → List ℕ
+  textOutput words output = unlessRefused (textRefusal words output) (overwrite output 0 (text (shown words))) output
+
+-- "Writer 1, 7, 11." "The writer gives it", the image's length, "and changes no later output byte."
+abbrev pub writeRefusal : List ℕ → List ℕ → ℕ
+writeRefusal words output = textRefusal imageOf words output
+
+abbrev pub writeReply : List ℕ → List ℕ → Reply
+writeReply words output = textReply imageOf words output
+
+abbrev pub writeOutput : List ℕ → List ℕ → List ℕ
+writeOutput words output = textOutput imageOf words output
 
 -- "Reader 1, 6, 10."
 unfoldable pub readRefusal : List ℕ → List ℕ → ℕ

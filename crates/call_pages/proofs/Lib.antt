@@ -1,2 +1,2 @@
--- What the tests of a printing say of its reply and its output.
+-- The pages of a sound table, and what lists of its keys show.
 pub mod Printing

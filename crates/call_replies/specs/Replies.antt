@@ -118,7 +118,7 @@ abbrev pub readBackOf : ReadBack → Reply
 readBackOf read-back.Done = record { refusal = 0; numbers = [] }
 readBackOf (read-back.Refused r) = record { refusal = numberOf r; numbers = [] }
 
--- The length of a listing's text.
+-- The length of a listing's text; of printed pages "the number of bytes written" (02, N6).
 abbrev pub listedOf : Listed → Reply
 listedOf (listed.Bytes n) = record { refusal = 0; numbers = n ∷ [] }
 listedOf (listed.Refused r) = record { refusal = numberOf r; numbers = 0 ∷ [] }

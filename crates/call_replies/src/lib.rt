@@ -106,7 +106,7 @@ pub enum ReadBack {
     Refused(Refusal),
 }
 
-// The answer of a listing: how many bytes its text has.
+// The answer of a listing, and of a printing of pages: how many bytes the text has.
 pub enum Listed {
     Bytes(usize),
     Refused(Refusal),

@@ -17,7 +17,7 @@ use Rattle.table.proofs.Entries.{entryAt, entries-by-keys}
 use Rattle.image.specs.Image.{imageOf}
 use Rattle.image.proofs.Reading.{image-unique}
 use Rattle.call_meaning.specs.Reasons.{outputTooShort, shown}
-use Rattle.call_meaning.specs.Calls.{writeRefusal, writeReply, writeOutput}
+use Rattle.call_meaning.specs.Calls.{writeRefusal, textReply, textOutput}
 use Rattle.history.specs.Call.{writing}
 use Rattle.history.specs.Book.{reasons, refusalBy}
 use Rattle.history.specs.Theorems.{Agree, AgreeAsLists, WritingAccepted, writtenImage, ImageWritten, ImagesAgree}
@@ -73,7 +73,7 @@ within-most many c most valid =
     }
 
 shown-written : (words lent : List ℕ) → writeRefusal words lent ≡ 0 → writtenImage words lent ≡ imageOf (shown words)
-unfolding writeReply writeOutput
+unfolding textReply textOutput
 shown-written words lent e = rw e (starts-with _ lent (imageOf (shown words)) (length (imageOf (shown words))) refl refl)
 
 pub writing-accepted : WritingAccepted

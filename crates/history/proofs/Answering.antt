@@ -13,7 +13,7 @@ use Rattle.measure.specs.Measure.{Measure}
 use Rattle.table.specs.Contents.{Contents, keysIn}
 use Rattle.table_least.specs.LeastKey.{leastWithin}
 use Rattle.call_replies.specs.Replies.{Reply, unlessRefused}
-use Rattle.call_meaning.specs.Calls.{grown, setUpReply, loadReply, buildReply, insertReply, deleteReply, lookupReply, lookupCorrection, rangeReply, rangeOutput, writeReply, writeOutput, readReply}
+use Rattle.call_meaning.specs.Calls.{grown, setUpReply, loadReply, buildReply, insertReply, deleteReply, lookupReply, lookupCorrection, rangeReply, rangeOutput, writeReply, writeOutput, readReply, textReply, textOutput}
 use Rattle.call_step.specs.Steps.{endReply, yielded, sought, stepReply, stepPlace}
 use Rattle.call_step.specs.declared.Place.{Place}
 use Rattle.call_batch.specs.Batch.{heldBy, rankBy, answered, batchReply, batchAfter}
@@ -82,7 +82,7 @@ module _ (many : ℕ) (words : List ℕ) (book : Contents) (table : Shows many w
   range-replies low high lent = rw (range-refused many words book table low high lent, table .holds)
 
   writing-replies : (lent : List ℕ) → writeReply words lent ≡ replyBy many (writing lent) book
-  unfolding writeReply replyBy
+  unfolding textReply replyBy
   writing-replies lent = rw (writing-refused many words book table lent, table .holds)
 
   batch-replies : (questions : List Question) → batchReply words questions ≡ replyBy many (batch questions) book
@@ -90,7 +90,7 @@ module _ (many : ℕ) (words : List ℕ) (book : Contents) (table : Shows many w
   batch-replies questions = rw (batch-refused many words book table questions, table .holds)
 
   printing-replies : (lent : List ℕ) → pagesReply words lent ≡ replyBy many (printing lent) book
-  unfolding pagesReply replyBy
+  unfolding textReply replyBy
   printing-replies lent = rw (printing-refused many words book table lent, table .holds)
 
   replies-by-book : (call : Call) → reply call words ≡ replyBy many call book
@@ -116,11 +116,11 @@ module _ (many : ℕ) (words : List ℕ) (book : Contents) (table : Shows many w
   range-fills low high lent = rw (range-refused many words book table low high lent, table .holds)
 
   writing-fills : (lent : List ℕ) → writeOutput words lent ≡ outputBy many (writing lent) book
-  unfolding writeOutput outputBy
+  unfolding textOutput outputBy
   writing-fills lent = rw (writing-refused many words book table lent, table .holds)
 
   printing-fills : (lent : List ℕ) → pagesOutput words lent ≡ outputBy many (printing lent) book
-  unfolding pagesOutput outputBy
+  unfolding textOutput outputBy
   printing-fills lent = rw (printing-refused many words book table lent, table .holds)
 
   outputs-by-book : (call : Call) → output call words ≡ outputBy many call book

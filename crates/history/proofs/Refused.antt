@@ -6,7 +6,7 @@ use lib.IntN.{ℤ}
 use Rattle.measure.specs.Measure.{Measure}
 use Rattle.table.specs.Contents.{Contents}
 use Rattle.call_meaning.specs.Reasons.{wrongLength, notSound, keyHeld, keyAbsent, tooManyKeys}
-use Rattle.call_meaning.specs.Calls.{grown, setUpRefusal, loadRefusal, buildRefusal, insertRefusal, deleteRefusal, lookupRefusal, rangeRefusal, writeRefusal, readRefusal}
+use Rattle.call_meaning.specs.Calls.{grown, setUpRefusal, loadRefusal, buildRefusal, insertRefusal, deleteRefusal, lookupRefusal, rangeRefusal, writeRefusal, readRefusal, textRefusal}
 use Rattle.call_step.specs.Steps.{stepRefusal}
 use Rattle.call_batch.specs.Batch.{batchRefusal}
 use Rattle.call_batch.specs.declared.Question.{Question}
@@ -50,7 +50,7 @@ module _ (many : ℕ) (words : List ℕ) (book : Contents) (table : Shows many w
   range-refused low high lent = rw (table .right, table .sound, table .holds)
 
   pub writing-refused : (lent : List ℕ) → writeRefusal words lent ≡ refusalBy many (writing lent) book
-  unfolding writeRefusal refusalBy wrongLength notSound
+  unfolding textRefusal refusalBy wrongLength notSound
   writing-refused lent = rw (table .right, table .sound, table .holds)
 
   pub batch-refused : (questions : List Question) → batchRefusal words questions ≡ refusalBy many (batch questions) book
@@ -58,7 +58,7 @@ module _ (many : ℕ) (words : List ℕ) (book : Contents) (table : Shows many w
   batch-refused questions = rw (table .right, table .sound)
 
   pub printing-refused : (lent : List ℕ) → pagesRefusal words lent ≡ refusalBy many (printing lent) book
-  unfolding pagesRefusal refusalBy wrongLength notSound
+  unfolding textRefusal refusalBy wrongLength notSound
   printing-refused lent = rw (table .right, table .sound, table .holds)
 
   pub step-accepted : stepRefusal words ≡ 0

@@ -29,12 +29,12 @@ use Rattle.call_replies.specs.declared.Refusal.{Refusal}
 use Rattle.call_replies.specs.declared.Listed.the-variants.{Bytes, Refused}
 use Rattle.call_replies.proofs.Refusals.{numbered}
 use Rattle.call_meaning.specs.Reasons.{wrongLength, notAnImage, notSound, tooManyKeys, outputTooShort, shown}
-use Rattle.call_meaning.specs.Calls.{rewritten, readRefusal, readReply, readAfter}
+use Rattle.call_meaning.specs.Calls.{rewritten, readRefusal, readReply, readAfter, textRefusal, textReply, textOutput}
 use Rattle.call_meaning.proofs.Judged.{slots-here}
 use Rattle.call_meaning.proofs.Shows.{Shows, shows}
 use Rattle.call_pages.specs.Paged.{pagesRefusal, pagesReply, pagesOutput}
 use Rattle.image_programs.specs.declared.Kind.{Kind}
-use Rattle.image_programs.specs.Printed.{programSlots, programBytes, programRefusal, refusedText, textOf, printed, ReadInto}
+use Rattle.image_programs.specs.Printed.{programSlots, programBytes, programRoom, programRefusal, refusedText, textAs, printed, ReadInto}
 
 -- reading into a table of so many slots is refused so
 pub refusal-is : (words bytes : List ℕ) → length words ≡ tableWords programSlots → readRefusal words bytes ≡ programRefusal bytes
@@ -55,7 +55,7 @@ module _ (kind : Kind) (bytes : List ℕ) where
     unfolding printed
     refused d = rw (le-ltb programBytes (length bytes) short, ne-eqb (programRefusal bytes) 0 d) refl
 
-    pub accepted : programRefusal bytes ≡ 0 → textOf kind bytes ≡ printed kind bytes
+    pub accepted : programRefusal bytes ≡ 0 → textAs kind bytes ≡ printed kind bytes
     unfolding printed
     accepted e = rw (le-ltb programBytes (length bytes) short, eq-eqb (programRefusal bytes) 0 e) refl
 
@@ -108,7 +108,7 @@ module _ {words bytes : List ℕ} (read : ReadInto words bytes) where
   pub pages-read : pagesOf (shown words) ≡ pagesOf (readImage bytes)
   pages-read = ap pagesOf (table-shows .holds)
 
-  pub pages-fit : length (pagesOf (shown words)) ≤ 500150
+  pub pages-fit : length (pagesOf (shown words)) ≤ programRoom
   unfolding pagesBytes
   pages-fit =
       let few = read .valid .keys-fit in
@@ -126,11 +126,11 @@ module _ (words output : List ℕ) (sound : isSound words ≡ true) (fits : leng
   right-long = not-true (eqb (slotsFor (length words)) 0) (and-left (not (eqb (slotsFor (length words)) 0)) _ sound)
 
   printing-accepted : pagesRefusal words output ≡ 0
-  unfolding pagesRefusal wrongLength notSound outputTooShort
+  unfolding textRefusal wrongLength notSound outputTooShort
   printing-accepted = rw (right-long, sound, le-ltb (length output) (length (pagesOf (shown words))) fits)
 
   pub pages-written : (n : ℕ) (after : List ℕ) → listedOf (Bytes n) ≡ pagesReply words output → after ≡ pagesOutput words output → Written output 0 (pagesOf (shown words)) after n
-  unfolding pagesReply pagesOutput
+  unfolding textReply textOutput
   pages-written n after says e =
       let number : n ≡ length (pagesOf (shown words)) =
       ap (λ (r : Reply). getD (r .numbers) 0 0) says ∙ ap (λ (k : ℕ). getD (unlessRefused k (length (pagesOf (shown words)) ∷ []) (0 ∷ [])) 0 0) printing-accepted
@@ -138,5 +138,5 @@ module _ (words output : List ℕ) (sound : isSound words ≡ true) (fits : leng
       record { holds = e ∙ ap (λ (k : ℕ). unlessRefused k (overwrite output 0 (pagesOf (shown words))) output) printing-accepted; ends = number ∙ omega arith }
 
   pub never-refused : (r : Refusal) → listedOf (Refused r) ≡ pagesReply words output → ⊥
-  unfolding pagesReply
+  unfolding textReply
   never-refused r says = let zero = ap (λ (s : Reply). s .refusal) says ∙ printing-accepted in omega (arith, numbered r, zero)

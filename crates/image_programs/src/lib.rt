@@ -10,7 +10,7 @@ ghost use Rattle.text.specs.Written.{Written};
 ghost use Rattle.text_listing.specs.Listing.{listingOf};
 ghost use Rattle.text_pages.specs.Pages.{pagesOf};
 ghost use Rattle.call_meaning.specs.Reasons.{shown};
-ghost use Rattle.image_programs.specs.Printed.{programSlots, programBytes, programRefusal, refusedText, textOf, printed, ReadInto};
+ghost use Rattle.image_programs.specs.Printed.{programSlots, programBytes, programRoom, programRefusal, refusedText, textAs, printed, ReadInto, Prints};
 use call_replies::Listed;
 use call_replies::ReadBack;
 
@@ -20,10 +20,8 @@ pub enum Kind {
     Pages,
 }
 
-// The most bytes that a program reads, and room for all that it prints.
+// The most bytes that a program reads.
 const PROGRAM_BYTES: usize = 50015;
-
-const PROGRAM_ROOM: usize = 500150;
 
 // The refusal of an image that is read into a table of 1,000 slots; 0 for none, and then it is read.
 fn refusal_in(table: &mut [u64], image: &[u8]) -> u64
@@ -40,7 +38,7 @@ fn refusal_in(table: &mut [u64], image: &[u8]) -> u64
 
 // Write what is printed of a refusal.
 fn put_refused(output: &mut [u8], number: u64) -> usize
-    requires { ⌜ 500150 ≤ length (now output) ⌝ }
+    requires { ⌜ programRoom ≤ length (now output) ⌝ }
     ensures { λ r. ⌜ Written (now (output .entry)) 0 (refusedText number) (now (output .exit)) r ⌝ }
 {
     let word = text::put_bytes(output, 0, b"refused ");
@@ -50,7 +48,7 @@ fn put_refused(output: &mut [u8], number: u64) -> usize
 
 // Write the listing of an image.
 fn put_listing(image: &[u8], output: &mut [u8]) -> usize
-    requires { ⌜ (isImage (now image) ≡ true) × (length (now image) ≤ programBytes) × (500150 ≤ length (now output)) ⌝ }
+    requires { ⌜ (isImage (now image) ≡ true) × (length (now image) ≤ programBytes) × (programRoom ≤ length (now output)) ⌝ }
     ensures { λ r. ⌜ Written (now (output .entry)) 0 (listingOf (readImage (now (image .entry)))) (now (output .exit)) r ⌝ }
 {
     let size = text_listing::size(image);
@@ -72,8 +70,8 @@ fn put_pages(table: &[u64], output: &mut [u8]) -> usize
 
 // Write the text of an image that was read into a table.
 fn put_text(kind: Kind, table: &[u64], image: &[u8], output: &mut [u8]) -> usize
-    requires { ⌜ ReadInto (now table) (now image) × (500150 ≤ length (now output)) ⌝ }
-    ensures { λ r. ⌜ Written (now (output .entry)) 0 (textOf kind (now (image .entry))) (now (output .exit)) r ⌝ }
+    requires { ⌜ ReadInto (now table) (now image) × (programRoom ≤ length (now output)) ⌝ }
+    ensures { λ r. ⌜ Written (now (output .entry)) 0 (textAs kind (now (image .entry))) (now (output .exit)) r ⌝ }
 {
     match kind {
         Kind::Listing => put_listing(image, output),
@@ -83,7 +81,7 @@ fn put_text(kind: Kind, table: &[u64], image: &[u8], output: &mut [u8]) -> usize
 
 // Write what is printed of the bytes, with words for a table of 1,000 slots to read them into.
 fn print_in(kind: Kind, table: &mut [u64], image: &[u8], output: &mut [u8]) -> usize
-    requires { ⌜ (length (now table) ≡ tableWords programSlots) × (500150 ≤ length (now output)) ⌝ }
+    requires { ⌜ (length (now table) ≡ tableWords programSlots) × (programRoom ≤ length (now output)) ⌝ }
     ensures { λ r. ⌜ Written (now (output .entry)) 0 (printed kind (now (image .entry))) (now (output .exit)) r ⌝ }
 {
     if PROGRAM_BYTES < image.len() {
@@ -99,22 +97,23 @@ fn print_in(kind: Kind, table: &mut [u64], image: &[u8], output: &mut [u8]) -> u
 // Write at the start of `output` what is printed of the bytes that were read; how many bytes that is. The output has room for all that is
 // printed.
 fn print(kind: Kind, image: &[u8], output: &mut [u8]) -> usize
-    requires { ⌜ 500150 ≤ length (now output) ⌝ }
+    requires { ⌜ programRoom ≤ length (now output) ⌝ }
     ensures { λ r. ⌜ Written (now (output .entry)) 0 (printed kind (now (image .entry))) (now (output .exit)) r ⌝ }
 {
     let mut table = [0u64; 8003];
     print_in(kind, &mut table, image, output)
 }
 
-// Read standard input, up to as many bytes as the buffer has, and print it. Internal to the programs: the buffer has one byte more than they read,
-// so that they see when there are more, and the output room for all that they print.
-pub fn run(kind: Kind, buffer: &mut [u8], output: &mut [u8]) {
-    if output.len() < PROGRAM_ROOM {
-        return;
-    }
+// Read standard input, up to as many bytes as the buffer has, and print its text, which is then at the start of `output`; how long that is. Internal
+// to the programs: the buffer has one byte more than they read, so that they see when there are more.
+pub fn run(kind: Kind, buffer: &mut [u8], output: &mut [u8]) -> usize
+    requires { ⌜ programRoom ≤ length (now output) ⌝ }
+    ensures { λ r. ⌜ Prints kind (now (buffer .exit)) (now (output .entry)) (now (output .exit)) r ⌝ }
+{
     let got = io::read_full(0, buffer);
     let n = print(kind, &buffer[..got], output);
     if n <= output.len() {
         io::write_all(1, &output[..n]);
     }
+    n
 }

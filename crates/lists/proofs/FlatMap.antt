@@ -1,15 +1,15 @@
 -- Laws of `flatMap` with `keep`, `All` and `Pairwise`, and of `fallingFrom`. Assumes nothing.
-use mathlib.Core.Bool.{Bool, true, false, cond, _||_, _&&_}
+use mathlib.Core.Bool.{Bool, true, false, cond}
 use mathlib.Core.List.{List, [], _∷_, _++_, map, flatMap, append-nil, append-assoc}
-use mathlib.Core.Logic.{_⊎_, _≢_, inl, inr, ⊎-elim}
-use mathlib.Core.Path.{_≡_, refl, sym, ap, ap₂, _∙_, subst}
+use mathlib.Core.Logic.{_⊎_, _≢_, ⊎-elim}
+use mathlib.Core.Path.{_≡_, refl, sym, ap, ap₂, _∙_}
 use Prim.Native.Nat.{ℕ, zero, suc, _+_, _*_, _<_, _≤_}
 use native.Mathlib.Nat.{mul-zero, mul-suc}
 use native.Mathlib.Omega.{arith}
 use lib.Dec.{eqb}
 use lib.ListN.{length, length-append}
 use borrow.Author.Tests.{eqb-true, eqb-false, ne-eqb}
-use Rattle.lists.specs.Lists.{consIf, keep, All, Pairwise, member, fallingFrom, Rising}
+use Rattle.lists.specs.Lists.{keep, All, Pairwise, member, fallingFrom, Rising}
 use Rattle.lists.proofs.Tests.{by-test, true-or-false, or-true-cases}
 use Rattle.lists.proofs.Keep.{all-map, all-mapped, all-append, keep-append, keep-none}
 

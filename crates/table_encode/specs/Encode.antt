@@ -57,7 +57,7 @@ pub record Linked (keys : List ℕ) (c : Columns) : Type 0 where
   pub right-within : (i : ℕ) → i < length keys → getD (c .right) i 0 ≤ length keys
   pub leader-within : (i : ℕ) → i < length keys → getD (c .leader) i 0 ≤ length keys
 
--- Lists with an entry for each key of an order: the key's rank, its count and its leader; a leader is a position, or zero for none.
+-- Lists that have, at the index of each key, its rank, its count and its leader by an order; a leader is a position, or zero for none.
 pub record StandingsOf (order : ℕ) (keys ranks counts leaders : List ℕ) : Type 0 where
   pub rank-long : length keys ≤ length ranks
   pub count-long : length keys ≤ length counts

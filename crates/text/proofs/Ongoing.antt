@@ -1,8 +1,10 @@
 -- Text that is being written piece by piece: what is written, and what is still to come. Assumes nothing.
-use mathlib.Core.List.{List, [], _++_, append-nil, append-assoc}
+use mathlib.Core.List.{List, [], _++_, flatMap, append-nil, append-assoc}
 use mathlib.Core.Path.{_≡_, refl, sym, _∙_, subst}
-use Prim.Native.Nat.{ℕ, _+_, _≤_}
+use Prim.Native.Nat.{ℕ, suc, _+_, _-_, _≤_, _<_}
+use native.Mathlib.Omega.{arith}
 use lib.ListN.{length}
+use Rattle.lists.specs.Lists.{upFrom}
 use Rattle.text.specs.Written.{Written}
 use Rattle.text.proofs.Pieces.{written-none, written-size, written-then, next-fits, front-fits}
 
@@ -52,3 +54,18 @@ module _ {before : List ℕ} {at : ℕ} {whole output : List ℕ} {to : ℕ} (fi
 
     pub ongoing-last : {last : List ℕ} {stop : ℕ} → Written output to piece last stop → Written before at whole last stop
     ongoing-last next = ongoing-all (ongoing-next piece [] with-none next)
+
+-- ---- a text for each index, from one up to another: the next, and none left
+module _ {before : List ℕ} {at : ℕ} {whole output : List ℕ} {to : ℕ} (f : ℕ → List ℕ) (i n : ℕ)
+    (state : Ongoing before at whole (flatMap f (upFrom i (n - i))) output to) where
+  pub ongoing-turn : i < n → Ongoing before at whole (f i ++ flatMap f (upFrom (suc i) (n - suc i))) output to
+  unfolding flatMap
+  ongoing-turn h =
+      let next : n - i ≡ suc (n - suc i) = omega arith in
+      subst (λ (many : ℕ). Ongoing before at whole (flatMap f (upFrom i many)) output to) next state
+
+  pub ongoing-end : n ≤ i → Written before at whole output to
+  unfolding flatMap
+  ongoing-end h =
+      let none : n - i ≡ 0 = omega arith in
+      ongoing-all (subst (λ (many : ℕ). Ongoing before at whole (flatMap f (upFrom i many)) output to) none state)

@@ -1,11 +1,11 @@
-// Writing text into a lent output at an index: bytes, spaces, and numbers in base ten or as sixteen hexadecimal digits. Each function
+// Writing text into a lent output at an index: bytes, spaces, and numbers in base ten, alone or in a column, or as sixteen hexadecimal digits. Each function
 // answers the index after what it wrote. Internal to this library's crates: their outputs have room for it.
 ghost use mathlib.Core.Path.{_≡_};
 ghost use Prim.Native.Nat.{_+_, _<_, _≤_};
 ghost use lib.ListN.{length};
 ghost use Rattle.text.specs.Digits.{digits, decimal, hexadecimal};
 ghost use Rattle.text.specs.Digits.{digit as Digits·digit};
-ghost use Rattle.text.specs.Columns.{spaces};
+ghost use Rattle.text.specs.Columns.{spaces, rightAligned};
 ghost use Rattle.text.specs.Written.{Written};
 
 // How many digits a key has.
@@ -55,6 +55,15 @@ pub fn put_decimal(output: &mut [u8], at: usize, n: u64) -> usize
     ensures { λ r. ⌜ Written (now (output .entry)) at (decimal n) (now (output .exit)) r ⌝ }
 {
     put_digits(output, at, 10, decimal_length(n), n)
+}
+
+// Write a number in base ten, right-aligned with spaces in so many characters. Internal.
+pub fn put_aligned(output: &mut [u8], at: usize, width: usize, n: u64) -> usize
+    requires { ⌜ (length (decimal n) ≤ width) × (at + width ≤ length (now output)) ⌝ }
+    ensures { λ r. ⌜ Written (now (output .entry)) at (rightAligned width (decimal n)) (now (output .exit)) r ⌝ }
+{
+    let start = put_spaces(output, at, width - decimal_length(n));
+    put_decimal(output, start, n)
 }
 
 // Write a number as sixteen hexadecimal digits, letters capital. Internal.

@@ -9,7 +9,7 @@ use Rattle.paris_points.specs.Points.{sizeOf}
 use Rattle.text.specs.Digits.{decimal}
 use Rattle.text.proofs.Spelling.{digits-length, hexadecimal-length}
 use Rattle.text_page_lines.specs.PageLines.{numberDigits, headingLine, sizeText, pageLine}
-use Rattle.text_page_lines.specs.Claims.{keyCharacters, columnLimit, PageLines}
+use Rattle.text_page_lines.specs.Claims.{keyCharacters, headingBytes, columnLimit, PageLines}
 use Rattle.text_page_lines.proofs.Worked.{headings-worked, sizes-worked, lines-worked}
 use Rattle.text_page_lines.proofs.Columns.{column-length, number-fits, size-fits}
 
@@ -27,7 +27,7 @@ key-line-length key rank count leader m h k right =
       column-length (sizeText (sizeOf m)) (size-fits m right),
     ))
 
-pub heading-length : (number : ℕ) → length (headingLine number) ≡ 10
+pub heading-length : (number : ℕ) → length (headingLine number) ≡ headingBytes
 unfolding headingLine
 heading-length number = simp length-append (omega (arith, digits-length 10 numberDigits number))
 

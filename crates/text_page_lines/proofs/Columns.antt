@@ -3,7 +3,7 @@ use mathlib.Core.Bool.{true}
 use mathlib.Core.List.{List, _++_, append-assoc}
 use mathlib.Core.Logic.{_≢_}
 use mathlib.Core.Option.{Option}
-use mathlib.Core.Path.{_≡_, refl, sym, ap, _∙_}
+use mathlib.Core.Path.{_≡_, refl, sym, ap, ap₂, _∙_}
 use Prim.Native.Nat.{ℕ, suc, _+_, _-_, _*_, _/_, _%_, _≤_, _<_}
 use native.Mathlib.Omega.{arith}
 use lib.Dec.{eqb}
@@ -29,12 +29,23 @@ module _ (text : List ℕ) (fits : length text ≤ columnWidth) where
   pub column-length : length (column text) ≡ suc columnWidth
   column-length = ap suc (aligned-length columnWidth text fits)
 
-  -- the space before it is one with those that align it
-  pub column-pieces : column text ≡ spaces (suc columnWidth - length text) ++ text
+  -- the space before it is one of those that align it
+  pub column-wide : column text ≡ rightAligned (suc columnWidth) text
   unfolding rightAligned
-  column-pieces =
+  column-wide =
       let one-more : suc (columnWidth - length text) ≡ suc columnWidth - length text = omega arith in
       ap (λ (many : ℕ). spaces many ++ text) one-more
+
+-- a text of which the end is written after the column: the column is narrower by as much
+pub aligned-before : (width : ℕ) (text end : List ℕ) → rightAligned (width + length end) (text ++ end) ≡ rightAligned width text ++ end
+unfolding rightAligned
+aligned-before width text end =
+    let narrower : width + length end - length (text ++ end) ≡ width - length text = omega (arith, length-append text end) in
+    ap (λ (many : ℕ). spaces many ++ (text ++ end)) narrower ∙ sym (append-assoc (spaces (width - length text)) text end)
+
+-- What of a size's column, the space before it included, is before the point.
+abbrev pub beforePoint : ℕ
+beforePoint = 3
 
 -- ---- ranks and counts
 pub number-fits : (n : ℕ) → n < columnLimit → length (decimal n) ≤ columnWidth
@@ -45,20 +56,24 @@ module _ (h : ℕ) (most : h ≤ greatestHalfPoints) where
   pub whole-fits : length (decimal (h / 2)) ≤ 2
   whole-fits = decimal-fits 1 (h / 2) (omega arith)
 
+  tenth-long : length (decimal (5 * (h % 2))) ≡ 1
+  tenth-long = decimal-single (5 * (h % 2)) (omega arith)
+
   points-long : length (pointsText h) ≡ length (decimal (h / 2)) + 2
   unfolding pointsText
-  points-long = simp length-append (omega (arith, decimal-single (5 * (h % 2)) (omega arith)))
+  points-long = simp length-append (omega (arith, tenth-long))
 
   pub points-fit : length (pointsText h) ≤ columnWidth
   points-fit = omega (arith, points-long, whole-fits)
 
-  pub points-pieces : column (pointsText h) ≡ spaces (3 - length (decimal (h / 2))) ++ (decimal (h / 2) ++ (ascii "." ++ decimal (5 * (h % 2))))
+  pub points-pieces : column (pointsText h) ≡ rightAligned beforePoint (decimal (h / 2)) ++ (ascii "." ++ decimal (5 * (h % 2)))
   unfolding pointsText
   points-pieces =
-      let before : suc columnWidth - length (pointsText h) ≡ 3 - length (decimal (h / 2)) = omega (arith, points-long) in
-      column-pieces (pointsText h) points-fit
-      ∙ ap (λ (many : ℕ). spaces many ++ pointsText h) before
-      ∙ ap (λ (rest : List ℕ). spaces (3 - length (decimal (h / 2))) ++ rest) (append-assoc (decimal (h / 2)) (ascii ".") (decimal (5 * (h % 2))))
+      let end = ascii "." ++ decimal (5 * (h % 2)) in
+      let wide : suc columnWidth ≡ beforePoint + length end = omega (arith, tenth-long) in
+      column-wide (pointsText h) points-fit
+      ∙ ap₂ rightAligned wide (append-assoc (decimal (h / 2)) (ascii ".") (decimal (5 * (h % 2))))
+      ∙ aligned-before beforePoint (decimal (h / 2)) end
 
 pub size-within : (m : Measure) → IsMeasured m → halfPoints (corrected m) ≤ greatestHalfPoints
 size-within m known = lies-says leastHalfPoints greatestHalfPoints (halfPoints (corrected m)) (sizes-hold .size-lies m known) .1
@@ -81,7 +96,10 @@ module _ (tag : ℕ) where
 
 -- ---- the line
 pub line-pieces : (key rank count leader : ℕ) (size : Option Size)
-    → pageLine key rank count leader size
-    ≡ hexadecimal key ++ (column (decimal rank) ++ (column (decimal count) ++ (spaced (hexadecimal leader) ++ (column (sizeText size) ++ lineFeed))))
+    → rank < columnLimit → count < columnLimit → pageLine key rank count leader size
+    ≡ hexadecimal key
+    ++ (rightAligned (suc columnWidth) (decimal rank)
+    ++ (rightAligned (suc columnWidth) (decimal count) ++ (spaced (hexadecimal leader) ++ (column (sizeText size) ++ lineFeed))))
 unfolding pageLine
-line-pieces key rank count leader size = simp append-assoc refl
+line-pieces key rank count leader size h k =
+    rw (sym (column-wide (decimal rank) (number-fits rank h)), sym (column-wide (decimal count) (number-fits count k))) (simp append-assoc refl)

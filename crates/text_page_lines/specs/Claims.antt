@@ -15,6 +15,10 @@ use Rattle.text_page_lines.specs.PageLines.{headingLine, pointsText, pag
 abbrev pub keyCharacters : ℕ
 keyCharacters = 48
 
+-- "The line `PAGE` with a space, four digits, .. and a line feed".
+abbrev pub headingBytes : ℕ
+headingBytes = 10
+
 -- The numbers that "rank (4), count (4)" hold are below this one.
 abbrev pub columnLimit : ℕ
 columnLimit = 10000
@@ -31,18 +35,18 @@ abbrev pub lineShown : Shown → List ℕ
 lineShown s = pageLine (s .key) (s .rank) (s .count) (s .leader) (s .size)
 
 -- A root that is not measured; a key with two digits of rank and one of count, of the size that document 02 gives; one with the widest columns.
-abbrev pub shownLines : List Shown
-shownLines =
+abbrev pub lineColumns : List Shown
+lineColumns =
     record { key = 5; rank = 0; count = 1; leader = 0; size = none }
     ∷ record { key = 0xFEDCBA9876543210; rank = 12; count = 3; leader = 10; size = some (record { halfPoints = 80; rest = pos 0 }) }
-    ∷ record { key = 1; rank = 4096; count = 4096; leader = 2; size = some (record { halfPoints = 15; rest = pos 0 }) }
+    ∷ record { key = 1; rank = 4096; count = 4096; leader = 2; size = some (record { halfPoints = 135; rest = pos 0 }) }
     ∷ []
 
 abbrev pub workedLines : List (List ℕ)
 workedLines =
     ascii "0000000000000005    0    1 0000000000000000    -\n"
     ∷ ascii "FEDCBA9876543210   12    3 000000000000000A 40.0\n"
-    ∷ ascii "0000000000000001 4096 4096 0000000000000002  7.5\n"
+    ∷ ascii "0000000000000001 4096 4096 0000000000000002 67.5\n"
     ∷ []
 
 pub record PageLines : Type 0 where
@@ -50,10 +54,10 @@ pub record PageLines : Type 0 where
   pub key-line : (key rank count leader : ℕ) (m : Measure) → rank < columnLimit → count < columnLimit → isMeasure m ≡ true
       → length (pageLine key rank count leader (sizeOf m)) ≡ suc keyCharacters
   -- the line of a page's number has ten bytes
-  pub heading : (number : ℕ) → length (headingLine number) ≡ 10
+  pub heading : (number : ℕ) → length (headingLine number) ≡ headingBytes
   -- "The line `PAGE` with a space, four digits"
   pub worked-headings : map headingLine (1 ∷ 82 ∷ []) ≡ ascii "PAGE 0001\n" ∷ ascii "PAGE 0082\n" ∷ []
   -- sizes are "as 40.0", from 7.5 to 67.5, since they are from 15 to 135 half points (`Rattle.paris_points.specs.Claims.size-lies`)
   pub worked-sizes : map pointsText (15 ∷ 80 ∷ 135 ∷ []) ≡ ascii "7.5" ∷ ascii "40.0" ∷ ascii "67.5" ∷ []
   -- whole lines
-  pub worked-lines : map lineShown shownLines ≡ workedLines
+  pub worked-lines : map lineShown lineColumns ≡ workedLines

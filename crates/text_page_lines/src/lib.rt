@@ -7,7 +7,6 @@ ghost use lib.ListN.{length};
 ghost use Rattle.measure.specs.Tag.{measureAt, isTag};
 ghost use Rattle.paris_points.specs.Points.{sizeOf};
 ghost use Rattle.paris_points.specs.Claims.{greatestHalfPoints};
-ghost use Rattle.text.specs.Digits.{decimal};
 ghost use Rattle.text.specs.Written.{Written};
 ghost use Rattle.text_page_lines.specs.PageLines.{headingLine, pointsText, sizeText, column, pageLine};
 ghost use Rattle.text_page_lines.specs.Claims.{columnLimit};
@@ -30,23 +29,13 @@ pub fn put_heading(output: &mut [u8], at: usize, number: u64) -> usize
     text::put_bytes(output, numbered, b"\n")
 }
 
-// Write a space and a number right-aligned in its column.
-fn put_number(output: &mut [u8], at: usize, n: u64) -> usize
-    requires { ⌜ (n < columnLimit) × (at + length (column (decimal n)) ≤ length (now output)) ⌝ }
-    ensures { λ r. ⌜ Written (now (output .entry)) at (column (decimal n)) (now (output .exit)) r ⌝ }
-{
-    let start = text::put_spaces(output, at, SPACED_COLUMN - text::decimal_length(n));
-    text::put_decimal(output, start, n)
-}
-
 // Write a space and a size of so many half points, in Paris points, right-aligned in its column.
 fn put_points(output: &mut [u8], at: usize, half_points: u64) -> usize
     requires { ⌜ («half_points» ≤ greatestHalfPoints) × (at + length (column (pointsText «half_points»)) ≤ length (now output)) ⌝ }
     ensures { λ r. ⌜ Written (now (output .entry)) at (column (pointsText «half_points»)) (now (output .exit)) r ⌝ }
 {
     let whole = half_points / 2;
-    let start = text::put_spaces(output, at, BEFORE_POINT - text::decimal_length(whole));
-    let point = text::put_decimal(output, start, whole);
+    let point = text::put_aligned(output, at, BEFORE_POINT, whole);
     let tenth = text::put_bytes(output, point, b".");
     text::put_decimal(output, tenth, 5 * (half_points % 2))
 }
@@ -76,8 +65,8 @@ pub fn put_key_line(
     ensures { λ r. ⌜ Written (now (output .entry)) at (pageLine key rank count leader (sizeOf (measureAt tag))) (now (output .exit)) r ⌝ }
 {
     let named = text::put_hexadecimal(output, at, key);
-    let ranked = put_number(output, named, rank);
-    let counted = put_number(output, ranked, count);
+    let ranked = text::put_aligned(output, named, SPACED_COLUMN, rank);
+    let counted = text::put_aligned(output, ranked, SPACED_COLUMN, count);
     let led = text_lines::put_key(output, counted, b" ", leader);
     let sized = put_size(output, led, tag);
     text::put_bytes(output, sized, b"\n")

@@ -11,14 +11,16 @@ use Rattle.lists.proofs.FlatMap.{length-flatMap-each, length-flatMap-headed}
 use Rattle.lists.proofs.Membership.{all-of-members}
 use Rattle.lists.proofs.UpFrom.{upFrom-length}
 use Rattle.table.specs.Layout.{mostSlots}
-use Rattle.table.specs.Contents.{Contents, keysIn, rightMeasure}
+use Rattle.table.specs.Contents.{Contents, keysIn, measureIn, rightMeasure}
 use Rattle.table.specs.Table.{Sound}
+use Rattle.table.proofs.Entries.{found-right}
+use Rattle.paris_points.proofs.Claims.{sizes-hold}
 use Rattle.text.specs.Digits.{decimal}
 use Rattle.text.proofs.Decimal.{decimal-fits}
-use Rattle.text_page_lines.specs.PageLines.{headingLine}
-use Rattle.text_page_lines.specs.Claims.{keyCharacters}
+use Rattle.text_page_lines.specs.PageLines.{numberDigits, headingLine}
+use Rattle.text_page_lines.specs.Claims.{keyCharacters, headingBytes}
 use Rattle.text_page_lines.proofs.Claims.{heading-length}
-use Rattle.text_page_lines.proofs.Columns.{number-fits}
+use Rattle.text_page_lines.proofs.Columns.{number-fits, size-fits}
 use Rattle.text_pages.specs.Pages.{lineOf, pageKeys, keysOn, pageOf, pageCount, pagesOf}
 use Rattle.text_pages.specs.Claims.{pagesBytes, InColumns, Pages}
 use Rattle.text_pages.proofs.Worked.{counts-worked, empty-worked, page-worked}
@@ -43,7 +45,7 @@ page-last keys h =
 
 -- ---- the length of the text
 module _ (c : Contents) (few : length (keysIn c) ≤ mostSlots) (right : All (λ e. rightMeasure e ≡ true) (c .entries)) where
-  page-length : (before : ℕ) → length (pageOf c before) ≡ 10 + length (flatMap (lineOf c) (keysOn before (keysIn c)))
+  page-length : (before : ℕ) → length (pageOf c before) ≡ headingBytes + length (flatMap (lineOf c) (keysOn before (keysIn c)))
   unfolding pageOf
   page-length before = length-append (headingLine (suc before)) (flatMap (lineOf c) (keysOn before (keysIn c))) ∙ omega (arith, heading-length (suc before))
 
@@ -51,8 +53,8 @@ module _ (c : Contents) (few : length (keysIn c) ≤ mostSlots) (right : All (λ
   unfolding pagesOf pagesBytes
   pages-length =
       let n = length (keysIn c) in
-      length-flatMap-headed (lineOf c) 10 (pageOf c) (λ before. keysOn before (keysIn c)) page-length (upFrom 0 (pageCount n))
-      ∙ ap₂ (λ (i j : ℕ). 10 * i + j) (upFrom-length 0 (pageCount n))
+      length-flatMap-headed (lineOf c) headingBytes (pageOf c) (λ before. keysOn before (keysIn c)) page-length (upFrom 0 (pageCount n))
+      ∙ ap₂ (λ (i j : ℕ). headingBytes * i + j) (upFrom-length 0 (pageCount n))
       (ap (λ (ks : List ℕ). length (flatMap (lineOf c) ks)) (all-pages (keysIn c)) ∙ length-flatMap-each (lineOf c) (suc keyCharacters) (λ k. line-length c few k right) (keysIn c))
 
 -- ---- of sound tables
@@ -69,9 +71,16 @@ module _ (words : List ℕ) (sound : Sound words) where
   in-columns : All (InColumns c) (keysIn c)
   in-columns =
       all-of-members (InColumns c) (keysIn c)
-      (λ k m. record { rank-fits = number-fits _ (rank-small c few k); count-fits = number-fits _ (count-small c few k) })
+      (λ k m.
+      let right = found-right (c .entries) k (sound .valid .measures-right) in
+      record {
+        rank-fits = number-fits _ (rank-small c few k);
+        count-fits = number-fits _ (count-small c few k);
+        size-fits = size-fits (measureIn (c .entries) k) right;
+        size-lies = λ long. sizes-hold .size-lies (measureIn (c .entries) k) (right, long);
+      })
 
-  numbers-short : length (decimal (pageCount (length (keysIn c)))) ≤ 4
+  numbers-short : length (decimal (pageCount (length (keysIn c)))) ≤ numberDigits
   numbers-short = decimal-fits 3 (pageCount (length (keysIn c))) (omega (arith, few, pages-reach (length (keysIn c))))
 
   text-long : length (pagesOf c) ≡ pagesBytes (length (keysIn c))

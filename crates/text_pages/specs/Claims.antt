@@ -1,27 +1,35 @@
 -- What is claimed of printed pages (document 02, N6); `proofs/Claims` proves it. Assumes nothing.
+use mathlib.Core.Bool.{true}
 use mathlib.Core.List.{List, [], _∷_, map, flatMap}
+use mathlib.Core.Logic.{_≢_}
 use mathlib.Core.Path.{_≡_}
 use Prim.Native.Nat.{ℕ, suc, pred, _+_, _*_, _<_, _≤_}
 use lib.IntN.{pos, negℤ}
 use lib.ListN.{length}
-use Rattle.lists.specs.Lists.{All, upFrom}
+use Rattle.lists.specs.Lists.{All, upFrom, lies}
+use Rattle.paris_points.specs.Points.{corrected, halfPoints, sizeOf}
+use Rattle.paris_points.specs.Claims.{leastHalfPoints, greatestHalfPoints}
 use Rattle.priority.specs.Priority.{priorityOf}
 use Rattle.treap.specs.Levels.{rank, count}
-use Rattle.table.specs.Contents.{Contents, keysIn}
+use Rattle.table.specs.Contents.{Contents, keysIn, measureIn}
 use Rattle.table.specs.Table.{Sound}
 use Rattle.text.specs.Ascii.{ascii}
 use Rattle.text.specs.Digits.{decimal}
-use Rattle.text_page_lines.specs.Claims.{keyCharacters}
+use Rattle.text_page_lines.specs.PageLines.{numberDigits, sizeText, columnWidth}
+use Rattle.text_page_lines.specs.Claims.{keyCharacters, headingBytes}
 use Rattle.text_pages.specs.Pages.{lineOf, pageKeys, keysOn, pageCount, pagesOf}
 
 -- The length of the pages of so many keys: ten bytes a page, 49 a key.
 unfoldable pub pagesBytes : ℕ → ℕ
-pagesBytes n = 10 * pageCount n + 49 * n
+pagesBytes n = headingBytes * pageCount n + suc keyCharacters * n
 
--- A key's columns hold its numbers: "rank (4), count (4)".
+-- A key's columns hold what they show: "rank (4), count (4), .. size (4, ..)"; the size is from 7.5 to 67.5, from 15 to 135 half points.
 pub record InColumns (c : Contents) (k : ℕ) : Type 0 where
-  pub rank-fits : length (decimal (rank (c .order) priorityOf (keysIn c) k)) ≤ 4
-  pub count-fits : length (decimal (count (c .order) priorityOf (keysIn c) k)) ≤ 4
+  pub rank-fits : length (decimal (rank (c .order) priorityOf (keysIn c) k)) ≤ columnWidth
+  pub count-fits : length (decimal (count (c .order) priorityOf (keysIn c) k)) ≤ columnWidth
+  pub size-fits : length (sizeText (sizeOf (measureIn (c .entries) k))) ≤ columnWidth
+  pub size-lies : measureIn (c .entries) k .length ≢ 0
+      → lies leastHalfPoints greatestHalfPoints (halfPoints (corrected (measureIn (c .entries) k))) ≡ true
 
 -- One key, of the size that document 02 gives for a t of 26,500.
 abbrev pub single : Contents
@@ -30,10 +38,10 @@ single = record { order = 3; entries = record { key = 5; measure = record { leng
 pub record Pages : Type 0 where
   -- "A key line is 48 characters and a line feed", for every key of every sound table
   pub key-lines : (words : List ℕ) (sound : Sound words) → All (λ k. length (lineOf (sound .contents) k) ≡ suc keyCharacters) (keysIn (sound .contents))
-  -- its ranks and counts have at most four digits
+  -- whose ranks and counts have at most four digits, and whose sizes are from 7.5 to 67.5
   pub columns : (words : List ℕ) (sound : Sound words) → All (InColumns (sound .contents)) (keysIn (sound .contents))
-  -- the number of each page has at most four digits
-  pub numbers : (words : List ℕ) (sound : Sound words) → length (decimal (pageCount (length (keysIn (sound .contents))))) ≤ 4
+  -- the number of its last page, and so of each, has at most four digits
+  pub numbers : (words : List ℕ) (sound : Sound words) → length (decimal (pageCount (length (keysIn (sound .contents))))) ≤ numberDigits
   -- the length of the whole text
   pub text-length : (words : List ℕ) (sound : Sound words) → length (pagesOf (sound .contents)) ≡ pagesBytes (length (keysIn (sound .contents)))
   -- "50 key lines" on each page but the last

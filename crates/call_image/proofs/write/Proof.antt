@@ -3,7 +3,8 @@ use mathlib.Core.Path.{sym, _∙_}
 use native.Mathlib.Omega.{arith}
 use lib.ListN.{length}
 use Rattle.table_limits.proofs.Lengths.{slots-for-some}
-use Rattle.call_image.proofs.Imaging.{refused-length}
+use Rattle.image.specs.Image.{imageOf}
+use Rattle.call_meaning.proofs.Texts.{refused-length}
 use borrow.Author.Needs.{needs}
 use Rattle.call_image.proofs.write.Statement.{statement}
 use Rattle.call_image.proofs.write.Tie as tie
@@ -14,7 +15,7 @@ slots-for-requires c κs = search needs
 returns : tie.Need-returns
 returns c =
     let args = c .before .before .before .before .args in
-    refused-length (args .table .now) (args .output .now) (sym (c .before .slots-for .ensures) ∙ c .if1 .taken)
+    refused-length imageOf (args .table .now) (args .output .now) (sym (c .before .slots-for .ensures) ∙ c .if1 .taken)
 
 write-with-room-requires : tie.Need-write-with-room-requires
 write-with-room-requires c κs =

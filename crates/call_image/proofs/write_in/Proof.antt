@@ -11,7 +11,9 @@ use Rattle.table.proofs.Tagged.{beside-of}
 use Rattle.table.proofs.Soundness.{sound-measures}
 use Rattle.table_examine.proofs.Verdicts.{told-false}
 use Rattle.table_examine.proofs.Examined.{Examined, examined, examined-writable}
-use Rattle.call_image.proofs.Imaging.{refused-table, refused-short, accepted}
+use Rattle.call_image.proofs.Imaging.{refused-short, accepted}
+use Rattle.image.specs.Image.{imageOf}
+use Rattle.call_meaning.proofs.Texts.{refused-table}
 use borrow.Author.Needs.{needs}
 use Rattle.call_image.proofs.write_in.Statement.{statement}
 use Rattle.call_image.proofs.write_in.Tie as tie
@@ -74,7 +76,7 @@ returns : tie.Need-returns
 returns c =
     let q = c .before .before .before .before .before .before in
     let start = begun q in
-    refused-table (start .args .table .now) (start .args .output .now) (start .args .many) (start .pre .0) (start .pre .1) (start .pre .2)
+    refused-table imageOf (start .args .table .now) (start .args .output .now) (start .args .many) (start .pre .0) (start .pre .1) (start .pre .2)
     (told-false (start .args .many) (start .args .table .now) (sym (q .examine .ensures .0) ∙ c .enum-told .given .1))
 
 slice-reshare-prefix-write : tie.Need-slice-reshare-prefix-write
@@ -110,8 +112,8 @@ returns-2 c =
     let p = w .before .before .before .before .before in
     let start = begun (judged-at p) in
     refused-short (start .args .table .now) (start .args .output .now) (start .args .many) (start .pre .0) (start .pre .1) (start .pre .2) (found p .sound)
-    (take (size p) (listed p)) (take (size p) (tagged p)) (found p .keys-there .taken) (found p .tags-there .taken) (w .write .result) (w .write .ensures .0) (omega (arith, c .if1 .taken))
-    (w .write .last .1 .1 .1 .0) (w .write .ensures .1)
+    (take (size p) (listed p)) (take (size p) (tagged p)) (found p .keys-there .taken) (found p .tags-there .taken) (w .write .result) (w .write .ensures .0)
+    (w .write .last .1 .1 .1 .0) (w .write .ensures .1) (omega (arith, c .if1 .taken))
 
 same-length-6 : tie.Need-same-length-6
 same-length-6 c = search needs
@@ -128,8 +130,8 @@ returns-3 c =
     let p = w .before .before .before .before .before in
     let start = begun (judged-at p) in
     accepted (start .args .table .now) (start .args .output .now) (start .args .many) (start .pre .0) (start .pre .1) (start .pre .2) (found p .sound)
-    (take (size p) (listed p)) (take (size p) (tagged p)) (found p .keys-there .taken) (found p .tags-there .taken) (w .write .result) (w .write .ensures .0) (omega (arith, c .if1 .left))
-    (w .write .last .1 .1 .1 .0) (w .write .ensures .1)
+    (take (size p) (listed p)) (take (size p) (tagged p)) (found p .keys-there .taken) (found p .tags-there .taken) (w .write .result) (w .write .ensures .0)
+    (w .write .last .1 .1 .1 .0) (w .write .ensures .1) (omega (arith, c .if1 .left))
 
 pub write-in-spec : {M : Type 1} → statement M
 write-in-spec =

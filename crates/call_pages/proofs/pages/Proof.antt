@@ -3,7 +3,8 @@ use mathlib.Core.Path.{sym, _∙_}
 use native.Mathlib.Omega.{arith}
 use lib.ListN.{length}
 use Rattle.table_limits.proofs.Lengths.{slots-for-some}
-use Rattle.call_pages.proofs.Printing.{refused-length}
+use Rattle.text_pages.specs.Pages.{pagesOf}
+use Rattle.call_meaning.proofs.Texts.{refused-length}
 use borrow.Author.Needs.{needs}
 use Rattle.call_pages.proofs.pages.Statement.{statement}
 use Rattle.call_pages.proofs.pages.Tie as tie
@@ -14,7 +15,7 @@ slots-for-requires c κs = search needs
 returns : tie.Need-returns
 returns c =
     let args = c .before .before .before .before .args in
-    refused-length (args .table .now) (args .output .now) (sym (c .before .slots-for .ensures) ∙ c .if1 .taken)
+    refused-length pagesOf (args .table .now) (args .output .now) (sym (c .before .slots-for .ensures) ∙ c .if1 .taken)
 
 pages-with-room-requires : tie.Need-pages-with-room-requires
 pages-with-room-requires c κs =

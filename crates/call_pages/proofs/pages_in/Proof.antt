@@ -1,20 +1,21 @@
 -- `call_pages::pages_in` meets its contract. Assumes nothing.
 use mathlib.Core.List.{List}
-use mathlib.Core.Path.{_≡_, sym, ap, _∙_, subst}
+use mathlib.Core.Path.{_≡_, refl, sym, ap, _∙_}
 use Prim.Native.Nat.{ℕ, _≤_}
 use native.Mathlib.Omega.{arith}
 use lib.ListN.{length, take}
 use lib.Seq.{length-take-le}
+use Rattle.lists.specs.Lists.{overwrite}
 use Rattle.table.specs.Contents.{Contents, keysIn}
 use Rattle.table.specs.Table.{contentsOf}
 use Rattle.table_encode.specs.Encode.{StandingsOf}
 use Rattle.table_examine.proofs.Verdicts.{told-false}
 use Rattle.table_examine.proofs.Examined.{Examined, examined}
-use Rattle.text.specs.Written.{Written}
 use Rattle.text_pages.specs.Pages.{pagesOf}
 use Rattle.text_pages.specs.Claims.{pagesBytes}
 use Rattle.text_pages.specs.Shown.{shownPages, Printable}
-use Rattle.call_pages.proofs.Printing.{refused-table, refused-short, text-length, lists-printable, text-shown, accepted}
+use Rattle.call_pages.proofs.Printing.{text-length, lists-printable, text-shown}
+use Rattle.call_meaning.proofs.Texts.{refused-table, refused-short, accepted}
 use borrow.Author.Needs.{needs}
 use Rattle.call_pages.proofs.pages_in.Statement.{statement}
 use Rattle.call_pages.proofs.pages_in.Tie as tie
@@ -78,14 +79,14 @@ shown p =
     text-shown (start .args .many) (start .pre .0 .1) (start .args .table .now) (found p .sound) (found p .keys-there .taken) (found p .tags-there .taken) (stands p)
 
 -- The size that was worked out is the text's length.
-size-is : (s : tie.After-size) → s .size .result ≡ pagesBytes (length (keysIn (held (s .before .before))))
-size-is s = s .size .ensures ∙ ap pagesBytes (found (s .before .before) .size)
+size-is : (s : tie.After-size) → s .size .result ≡ length (pagesOf (held (s .before .before)))
+size-is s =
+    let p = s .before .before in
+    let start = begun (judged-at p) in
+    s .size .ensures ∙ ap pagesBytes (found p .size) ∙ sym (text-length (start .args .many) (start .pre .0 .1) (start .args .table .now) (found p .sound))
 
 room : (e : tie.Else1) → length (pagesOf (held (e .before .before .before))) ≤ length (begun (judged-at (e .before .before .before)) .args .output .now)
-room e =
-    let p = e .before .before .before in
-    let start = begun (judged-at p) in
-    omega (arith, e .if1 .left, size-is (e .before), text-length (start .args .many) (start .pre .0 .1) (start .args .table .now) (found p .sound))
+room e = omega (arith, e .if1 .left, size-is (e .before))
 
 examine-standings-requires : tie.Need-examine-standings-requires
 examine-standings-requires c κs = let pre = c .before .before .before .before .before .before .before .before .before .before .before .before .pre in (pre .0, pre .1)
@@ -115,7 +116,7 @@ returns : tie.Need-returns
 returns c =
     let q = c .before .before .before .before .before .before .before .before .before .before .before .before in
     let start = begun q in
-    refused-table (start .args .table .now) (start .args .output .now) (start .args .many) (start .pre .0 .0) (start .pre .0 .1) (start .pre .0 .2)
+    refused-table pagesOf (start .args .table .now) (start .args .output .now) (start .args .many) (start .pre .0 .0) (start .pre .0 .1) (start .pre .0 .2)
     (told-false (start .args .many) (start .args .table .now) (sym (q .examine-standings .ensures .0) ∙ c .enum-told .given .1))
 
 size-requires : tie.Need-size-requires
@@ -140,8 +141,8 @@ returns-2 : tie.Need-returns-2
 returns-2 c =
     let p = c .before .before .before in
     let start = begun (judged-at p) in
-    refused-short (start .args .table .now) (start .args .output .now) (start .args .many) (start .pre .0 .0) (start .pre .0 .1) (start .pre .0 .2) (found p .sound)
-    (c .before .size .result) (size-is (c .before)) (omega (arith, c .if1 .taken))
+    refused-short pagesOf (start .args .table .now) (start .args .output .now) (start .args .many) (start .pre .0 .0) (start .pre .0 .1) (start .pre .0 .2) (found p .sound)
+    (c .before .size .result) (size-is (c .before)) (c .if1 .taken) (start .args .output .now) refl
 
 slice-reshare-prefix-write : tie.Need-slice-reshare-prefix-write
 slice-reshare-prefix-write c = inside (c .before .before .before)
@@ -186,8 +187,9 @@ returns-3 c =
     let p = e .before .before .before in
     let start = begun (judged-at p) in
     let after = w .last .1 .1 .1 .1 .1 .0 in
-    accepted (start .args .table .now) (start .args .output .now) (start .args .many) (start .pre .0 .0) (start .pre .0 .1) (start .pre .0 .2) (found p .sound) (room e) after (w .result)
-    (subst (λ (text : List ℕ). Written (start .args .output .now) 0 text after (w .result)) (sym (shown p)) (w .ensures))
+    accepted pagesOf (start .args .table .now) (start .args .output .now) (start .args .many) (start .pre .0 .0) (start .pre .0 .1) (start .pre .0 .2) (found p .sound) (w .result)
+    (w .ensures .ends ∙ omega (arith, ap length (shown p))) (omega (arith, w .ensures .ends, ap length (shown p), room e)) after
+    (w .ensures .holds ∙ ap (overwrite (start .args .output .now) 0) (sym (shown p)))
 
 pub pages-in-spec : {M : Type 1} → statement M
 pages-in-spec =

@@ -4,7 +4,7 @@ use mathlib.Core.Path.{sym, ap, _∙_, subst}
 use Prim.Native.Nat.{ℕ}
 use native.Mathlib.Omega.{arith}
 use Rattle.text.specs.Written.{Written}
-use Rattle.image_programs.specs.Printed.{textOf}
+use Rattle.image_programs.specs.Printed.{textAs}
 use Rattle.image_programs.specs.declared.Kind.{Kind}
 use Rattle.image_programs.proofs.Printing.{table-sound, pages-read, pages-fit}
 use borrow.Author.Needs.{needs}
@@ -34,7 +34,7 @@ returns c =
     let call = c .before .before .put-listing in
     let told = c .before .before .before .before .enum-told in
     let start = c .before .before .before .before .before .before .before .before .before in
-    subst (λ (kind : Kind). Written (start .args .output .now) 0 (textOf kind (start .args .image .now)) (call .last .1 .0) (call .result)) (sym (told .given .1)) (call .ensures)
+    subst (λ (kind : Kind). Written (start .args .output .now) 0 (textAs kind (start .args .image .now)) (call .last .1 .0) (call .result)) (sym (told .given .1)) (call .ensures)
 
 same-length-2 : tie.Need-same-length-2
 same-length-2 c = search needs
@@ -45,7 +45,7 @@ returns-2 c =
     let told = c .before .before .before .before .enum-told2 in
     let start = c .before .before .before .before .before .before .before .before .before in
     subst (λ (text : List ℕ). Written (start .args .output .now) 0 text (call .last .1 .0) (call .result))
-    (pages-read (start .pre .0) ∙ ap (λ (kind : Kind). textOf kind (start .args .image .now)) (sym (told .given .1)))
+    (pages-read (start .pre .0) ∙ ap (λ (kind : Kind). textAs kind (start .args .image .now)) (sym (told .given .1)))
     (call .ensures)
 
 pub put-text-spec : {M : Type 1} → statement M

@@ -1,12 +1,9 @@
--- `image_programs::run` is safe and returns. Assumes nothing.
+-- `image_programs::run` meets its contract. Assumes nothing.
 use mathlib.Core.Path.{sym}
 use lib.Seq.{length-take-le}
 use borrow.Author.Needs.{needs}
 use Rattle.image_programs.proofs.run.Statement.{statement}
 use Rattle.image_programs.proofs.run.Tie as tie
-
-returns : tie.Need-returns
-returns c = search needs
 
 read-full-requires : tie.Need-read-full-requires
 read-full-requires c κs = search needs
@@ -24,7 +21,7 @@ slice-reshare-prefix-write-all : tie.Need-slice-reshare-prefix-write-all
 slice-reshare-prefix-write-all c = search needs
 
 slice-aggregate-write-all : tie.Need-slice-aggregate-write-all
-slice-aggregate-write-all c = sym (length-take-le _ _ (c .before .if2 .taken))
+slice-aggregate-write-all c = sym (length-take-le _ _ (c .before .if1 .taken))
 
 write-all-requires : tie.Need-write-all-requires
 write-all-requires c κs = search needs
@@ -35,8 +32,8 @@ same-length c = search needs
 same-length-2 : tie.Need-same-length-2
 same-length-2 c = search needs
 
-returns-2 : tie.Need-returns-2
-returns-2 c = search needs
+returns : tie.Need-returns
+returns c = search needs
 
 same-length-3 : tie.Need-same-length-3
 same-length-3 c = search needs
@@ -44,14 +41,13 @@ same-length-3 c = search needs
 same-length-4 : tie.Need-same-length-4
 same-length-4 c = search needs
 
-returns-3 : tie.Need-returns-3
-returns-3 c = search needs
+returns-2 : tie.Need-returns-2
+returns-2 c = search needs
 
 pub run-spec : {M : Type 1} → statement M
 run-spec =
     tie.close
     (tie.spec
-    returns
     read-full-requires
     slice-reshare-prefix-print
     slice-aggregate-print
@@ -61,7 +57,7 @@ run-spec =
     write-all-requires
     same-length
     same-length-2
-    returns-2
+    returns
     same-length-3
     same-length-4
-    returns-3)
+    returns-2)

@@ -1,11 +1,9 @@
 -- `text_pages::put_keys` meets its contract. The loop's invariant: the lines of the keys from its index on are still to come. Assumes nothing.
-use mathlib.Core.List.{List, _++_, flatMap}
-use mathlib.Core.Path.{_≡_, subst}
+use mathlib.Core.List.{List, _++_}
 use Prim.Native.Nat.{ℕ, suc, _-_, _≤_}
 use native.Mathlib.Numerals.{add-one}
 use native.Mathlib.Omega.{arith}
-use Rattle.lists.specs.Lists.{upFrom}
-use Rattle.text.proofs.Ongoing.{Ongoing, ongoing-none, ongoing-all, ongoing-size, ongoing-fits, ongoing-next}
+use Rattle.text.proofs.Ongoing.{Ongoing, ongoing-none, ongoing-size, ongoing-fits, ongoing-next, ongoing-turn, ongoing-end}
 use Rattle.text_pages.specs.Shown.{shownLine, shownLines}
 use Rattle.text_pages.proofs.put_keys.Statement.{statement}
 use Rattle.text_pages.proofs.put_keys.Tie as tie
@@ -32,12 +30,8 @@ abbrev begun : tie.In-loop Inv-loop μ-loop → tie.Start Inv-loop μ-loop
 begun t = t .before .before .before .before .before .before .before .before
 
 turn : (t : tie.In-loop Inv-loop μ-loop) → Left (begun t) (line (begun t) (t .before .loop .i) ++ lines (begun t) (suc (t .before .loop .i))) (t .before .loop .output) (t .before .loop .end)
-unfolding shownLines flatMap
-turn t =
-    let loop = t .before .loop in
-    let start = begun t in
-    let next : start .args .to - loop .i ≡ suc (start .args .to - suc (loop .i)) = omega (arith, t .loop-test .taken) in
-    subst (λ (many : ℕ). Left start (flatMap (line start) (upFrom (loop .i) many)) (loop .output) (loop .end)) next (loop .inv .1)
+unfolding shownLines
+turn t = let start = begun t in ongoing-turn (line start) (t .before .loop .i) (start .args .to) (t .before .loop .inv .1) (t .loop-test .taken)
 
 loop-holds : tie.Need-loop-holds Inv-loop μ-loop
 loop-holds c = (c .before .before .before .before .before .before .pre .0 .1, ongoing-none _ _ _)
@@ -66,12 +60,8 @@ same-length : tie.Need-same-length Inv-loop μ-loop
 same-length c = ongoing-size (c .before .before .before .before .before .before .before .before .pre .1) (c .before .loop .inv .1)
 
 returns : tie.Need-returns Inv-loop μ-loop
-unfolding shownLines flatMap
-returns c =
-    let start = c .before .before .before .before .before .before .before .before in
-    let loop = c .before .loop in
-    let none : start .args .to - loop .i ≡ 0 = omega (arith, c .loop-test .left) in
-    ongoing-all (subst (λ (many : ℕ). Left start (flatMap (line start) (upFrom (loop .i) many)) (loop .output) (loop .end)) none (loop .inv .1))
+unfolding shownLines
+returns c = let start = c .before .before .before .before .before .before .before .before in ongoing-end (line start) (c .before .loop .i) (start .args .to) (c .before .loop .inv .1) (c .loop-test .left)
 
 pub put-keys-spec : {M : Type 1} → statement M
 put-keys-spec =

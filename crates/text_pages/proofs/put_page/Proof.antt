@@ -4,6 +4,7 @@ use mathlib.Core.Path.{subst}
 use Prim.Native.Nat.{ℕ, _+_, _*_, _≤_}
 use native.Mathlib.Omega.{arith}
 use lib.ListN.{length}
+use Rattle.table.specs.Layout.{mostSlots}
 use Rattle.text.proofs.Ongoing.{Ongoing, ongoing-none, ongoing-fits, ongoing-next, last-fits, ongoing-last}
 use Rattle.text_page_lines.specs.PageLines.{headingLine}
 use Rattle.text_pages.specs.Pages.{pageKeys}
@@ -19,7 +20,7 @@ module _ (start : tie.Start) where
   first-key : pageKeys * start .args .before ≤ length (start .args .keys .now)
   first-key = page-begun (length (start .args .keys .now)) (start .args .before) (start .pre .0 .1)
 
-  few : length (start .args .keys .now) ≤ 4096
+  few : length (start .args .keys .now) ≤ mostSlots
   few = start .pre .0 .0 .few
 
   -- The line of its number, and those of its keys up to an index; what of the page is still to be written, where and into what.

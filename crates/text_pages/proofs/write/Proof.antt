@@ -6,7 +6,8 @@ use native.Mathlib.Numerals.{add-one}
 use native.Mathlib.Omega.{arith}
 use lib.ListN.{length}
 use Rattle.lists.specs.Lists.{upFrom}
-use Rattle.text.proofs.Ongoing.{Ongoing, ongoing-none, ongoing-all, ongoing-size, ongoing-fits, ongoing-next}
+use Rattle.table.specs.Layout.{mostSlots}
+use Rattle.text.proofs.Ongoing.{Ongoing, ongoing-none, ongoing-size, ongoing-fits, ongoing-next, ongoing-turn, ongoing-end}
 use Rattle.text_pages.specs.Shown.{shownPage, shownPages}
 use Rattle.text_pages.proofs.Counting.{pages-reach}
 use Rattle.text_pages.proofs.write.Statement.{statement}
@@ -37,7 +38,7 @@ module _ (start : tie.Start Inv-loop μ-loop) where
   room : 0 + length all ≤ length (start .args .output .now)
   room = omega (arith, start .pre .1)
 
-  few : length (start .args .keys .now) ≤ 4096
+  few : length (start .args .keys .now) ≤ mostSlots
   few = start .pre .0 .few
 
 at-first : (c : tie.After-page-count Inv-loop μ-loop) → let start = c .before .before .before .before .before .before .before in Left start (pagesFrom start 0 (c .page-count .result - 0)) (start .args .output .now) 0
@@ -56,12 +57,7 @@ abbrev later : tie.In-loop Inv-loop μ-loop → List ℕ
 later t = pagesFrom (begun t) (suc (t .before .loop .before)) (t .before .before .page-count .result - suc (t .before .loop .before))
 
 turn : (t : tie.In-loop Inv-loop μ-loop) → Left (begun t) (page (begun t) (t .before .loop .before) ++ later t) (t .before .loop .output) (t .before .loop .end)
-unfolding flatMap
-turn t =
-    let loop = t .before .loop in
-    let pages = t .before .before .page-count .result in
-    let next : pages - loop .before ≡ suc (pages - suc (loop .before)) = omega (arith, t .loop-test .taken) in
-    subst (λ (many : ℕ). Left (begun t) (pagesFrom (begun t) (loop .before) many) (loop .output) (loop .end)) next (loop .inv .1)
+turn t = ongoing-turn (page (begun t)) (t .before .loop .before) (t .before .before .page-count .result) (t .before .loop .inv .1) (t .loop-test .taken)
 
 page-count-requires : tie.Need-page-count-requires Inv-loop μ-loop
 page-count-requires c κs = few (c .before .before .before .before .before .before)
@@ -96,12 +92,9 @@ same-length : tie.Need-same-length Inv-loop μ-loop
 same-length c = ongoing-size (room (c .before .before .before .before .before .before .before .before .before)) (c .before .loop .inv .1)
 
 returns : tie.Need-returns Inv-loop μ-loop
-unfolding flatMap
 returns c =
     let start = c .before .before .before .before .before .before .before .before .before in
-    let loop = c .before .loop in
-    let none : c .before .before .page-count .result - loop .before ≡ 0 = omega (arith, c .loop-test .left) in
-    ongoing-all (subst (λ (many : ℕ). Left start (pagesFrom start (loop .before) many) (loop .output) (loop .end)) none (loop .inv .1))
+    ongoing-end (page start) (c .before .loop .before) (c .before .before .page-count .result) (c .before .loop .inv .1) (c .loop-test .left)
 
 pub write-spec : {M : Type 1} → statement M
 write-spec =
