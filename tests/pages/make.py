@@ -69,7 +69,7 @@ def some_measured(count):
 
 def numbers_of_keys():
     """As many as fill a page, one fewer and one more; two pages; and as many as the program takes."""
-    printed("forty_nine_keys", 3, some_measured(49)[0])
+    printed("forty_nine_keys", 3, many(49)[0])
     printed("fifty_keys", 3, *some_measured(50))
     printed("fifty_one_keys", 3, *some_measured(51))
     printed("hundred_keys", 4, *many(100))
