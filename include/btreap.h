@@ -40,9 +40,8 @@
  * only where that length is 0. What a call writes to overlaps nothing else that it is handed, and no other thread uses it during the call.
  *
  * The calls keep no state, allocate nothing, print nothing and may run at the same time in any number of threads, on different tables or, where
- * they only read it, on one. Stack, as measured: up to 440,000 bytes for btreap_read and btreap_list, up to 205,000 for btreap_insert,
- * btreap_delete and btreap_write, up to 180,000 for the other calls, whatever the table's size; next to none for btreap_set_up and
- * btreap_points.
+ * they only read it, on one. Stack, as measured: up to 440,000 bytes for btreap_read and btreap_list, up to 270,000 for btreap_pages, up to
+ * 180,000 for the other calls, whatever the table's size; next to none for btreap_set_up and btreap_points.
  *
  * Link with -lbtreap (x86-64 Linux); the archive needs nothing but the C library's memory functions. `pkg-config --cflags --libs btreap`.
  */

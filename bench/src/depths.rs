@@ -112,13 +112,13 @@ mod tests {
     #[test]
     fn no_call_uses_more_than_the_header_says() {
         let reading = promised("Stack, as measured: up to ");
-        let rewriting = promised("bytes for btreap_read and btreap_list, up to ");
-        let other = promised("for btreap_insert, btreap_delete and btreap_write, up to ");
+        let printing = promised("bytes for btreap_read and btreap_list, up to ");
+        let other = promised("for btreap_pages, up to ");
         for keys in [random_keys(MOST_SLOTS), keys_in_runs(), random_keys(64)] {
             for (call, depth) in depths(&keys) {
                 let most = match call {
                     "read" | "list" => reading,
-                    "insert" | "delete" | "write" => rewriting,
+                    "pages" => printing,
                     "set_up" | "points" => NEXT_TO_NONE,
                     _ => other,
                 };

@@ -12,7 +12,6 @@ ghost use Rattle.table.specs.Table.{contentsOf};
 ghost use Rattle.table.specs.Sound.{soundWith};
 ghost use Rattle.table.specs.Contents.{keysIn};
 ghost use Rattle.table_decode.specs.Decode.{contentsRead};
-ghost use Rattle.table_encode.specs.Encode.{StandingsOf};
 ghost use Rattle.table_examine.specs.Examine.{verdictOf};
 use priority::CONSTANT_COUNT;
 use table::ORDER_WORD;
@@ -79,7 +78,6 @@ fn examine_within(
     ensures { λ r. ⌜ r ≡ verdictOf many (now (table .entry)) ⌝ }
     ensures { λ _. ⌜ (soundWith many (now (table .entry)) ≡ true → now (keys .exit) ≡ overwrite (now (keys .entry)) 0 (keysIn (contentsOf many (now (table .entry))))) ⌝ }
     ensures { λ _. ⌜ (soundWith many (now (table .entry)) ≡ true → now (tags .exit) ≡ overwrite (now (tags .entry)) 0 (tagsIn (contentsOf many (now (table .entry))))) ⌝ }
-    ensures { λ _. ⌜ (soundWith many (now (table .entry)) ≡ true → StandingsOf (contentsOf many (now (table .entry)) .order) (keysIn (contentsOf many (now (table .entry)))) (now (rank .exit)) (now (count .exit)) (now (leader .exit))) ⌝ }
 {
     let order = table[ORDER_WORD];
     if !table_limits::is_order(order) {
@@ -119,49 +117,6 @@ fn examine_within(
     conclude(same, n)
 }
 
-// Examine a table of `many` slots, and tell how its keys stand: where it is sound, its keys, rising, are then at the start of `keys`, the tags of
-// their measures at the start of `tags`, and their ranks, counts and leaders, these as positions, at the start of `rank`, `count` and `leader`; where
-// it is not, what these hold is left open. Internal to this library's crates: their lists are at least as long as the table has slots, and they
-// lend the constants of the priorities.
-pub fn examine_standings(
-    table: &[u64],
-    many: usize,
-    keys: &mut [u64],
-    tags: &mut [u64],
-    rank: &mut [u16],
-    count: &mut [u16],
-    leader: &mut [u16],
-    constants: &[u64; CONSTANT_COUNT],
-) -> Verdict
-    requires { ⌜ (0 < many) × (many ≤ mostSlots) × (length (now table) ≡ tableWords many) × (many ≤ length (now keys)) × (many ≤ length (now tags)) × HoldsConstants (now constants) ⌝ }
-    requires { ⌜ (many ≤ length (now rank)) × (many ≤ length (now count)) × (many ≤ length (now leader)) ⌝ }
-    ensures { λ r. ⌜ r ≡ verdictOf many (now (table .entry)) ⌝ }
-    ensures { λ _. ⌜ (soundWith many (now (table .entry)) ≡ true → now (keys .exit) ≡ overwrite (now (keys .entry)) 0 (keysIn (contentsOf many (now (table .entry))))) ⌝ }
-    ensures { λ _. ⌜ (soundWith many (now (table .entry)) ≡ true → now (tags .exit) ≡ overwrite (now (tags .entry)) 0 (tagsIn (contentsOf many (now (table .entry))))) ⌝ }
-    ensures { λ _. ⌜ (soundWith many (now (table .entry)) ≡ true → StandingsOf (contentsOf many (now (table .entry)) .order) (keysIn (contentsOf many (now (table .entry)))) (now (rank .exit)) (now (count .exit)) (now (leader .exit))) ⌝ }
-{
-    let mut weights = [0u64; 4096];
-    let mut ranking = [0u16; 4096];
-    let mut left = [0u16; 4096];
-    let mut right = [0u16; 4096];
-    let mut slots = [0u16; 4096];
-    examine_within(
-        table,
-        many,
-        keys,
-        tags,
-        &mut weights,
-        &mut ranking,
-        &mut left,
-        &mut right,
-        rank,
-        count,
-        leader,
-        &mut slots,
-        constants,
-    )
-}
-
 // Examine a table of `many` slots; where it is sound, its keys, rising, are then at the start of `keys`, and the tags of their measures at the
 // start of `tags`; where it is not, what these hold is left open. Internal to this library's crates: they lend the constants of the priorities.
 pub fn examine(
@@ -176,17 +131,27 @@ pub fn examine(
     ensures { λ _. ⌜ (soundWith many (now (table .entry)) ≡ true → now (keys .exit) ≡ overwrite (now (keys .entry)) 0 (keysIn (contentsOf many (now (table .entry))))) ⌝ }
     ensures { λ _. ⌜ (soundWith many (now (table .entry)) ≡ true → now (tags .exit) ≡ overwrite (now (tags .entry)) 0 (tagsIn (contentsOf many (now (table .entry))))) ⌝ }
 {
+    let mut weights = [0u64; 4096];
+    let mut ranking = [0u16; 4096];
+    let mut left = [0u16; 4096];
+    let mut right = [0u16; 4096];
     let mut rank = [0u16; 4096];
     let mut count = [0u16; 4096];
     let mut leader = [0u16; 4096];
-    examine_standings(
+    let mut slots = [0u16; 4096];
+    examine_within(
         table,
         many,
         keys,
         tags,
+        &mut weights,
+        &mut ranking,
+        &mut left,
+        &mut right,
         &mut rank,
         &mut count,
         &mut leader,
+        &mut slots,
         constants,
     )
 }

@@ -19,8 +19,8 @@ use Rattle.table.proofs.Soundness.{shown-fit}
 use Rattle.table.proofs.Tagged.{tags-many, beside-of}
 use Rattle.table_prepare.specs.Prepared.{Keys}
 use Rattle.table_prepare.proofs.Preparing.{room}
-use Rattle.table_encode.specs.Encode.{Columns, StandingsOf, wordsOf}
-use Rattle.table_encode.proofs.Linking.{linked, root-within, slots-low, prepared-words, standings}
+use Rattle.table_encode.specs.Encode.{Columns, wordsOf}
+use Rattle.table_encode.proofs.Linking.{linked, root-within, slots-low, prepared-words}
 use Rattle.table_decode.specs.Decode.{contentsRead}
 use Rattle.table_examine.proofs.Measured.{read-right, sound-read}
 use Rattle.table_examine.proofs.KeysRead.{keys-shown}
@@ -118,16 +118,6 @@ compares m =
     ∙ ap (λ (m : ℕ). same (words-in p) (fresh m shown)) (sym (m .prepare .ensures .1))
     ∙ ap (same (words-in p)) (sym (prepared-words (getD (words-in (rises-tested (tested m))) orderWord 0) (comparable (tested m) .wide) (take ((rises-tested (tested m)) .read-keys .result) (list-in (rises-tested (tested m)))) (m .prepare .last .1 .1 .1 .1 .1 .0) (m .prepare .last .1 .1 .1 .1 .1 .1 .0) (m .prepare .last .1 .1 .1 .1 .1 .1 .1 .0) (m .prepare .last .1 .1 .1 .1 .1 .1 .1 .1 .0) (m .prepare .last .1 .1 .1 .1 .1 .1 .1 .1 .1 .0) (take (slots-in (rises-tested (tested m))) (m .prepare .last .1 .1 .1 .1 .1 .1 .1 .1 .1 .1 .0)) (m .prepare .result) (m .prepare .ensures .0) (keys .rising) (keys .some) tags (beside (tested m))))
 
--- and how the keys stand
-standing-there : (m : tie.After-prepare) → let p = rises-tested (tested m) in
-    StandingsOf (contentsOf (slots-in p) (words-in p) .order) (keysIn (contentsOf (slots-in p) (words-in p))) (prepared m .rank) (prepared m .count) (prepared m .leader)
-unfolding contentsOf
-standing-there m =
-    let p = rises-tested (tested m) in
-    let keys = comparable (tested m) in
-    subst (λ (ks : List ℕ). StandingsOf (getD (words-in p) orderWord 0) ks (prepared m .rank) (prepared m .count) (prepared m .leader)) (read p)
-    (standings (getD (words-in p) orderWord 0) (keys .wide) (take (p .read-keys .result) (list-in p)) (prepared m .left) (prepared m .right) (prepared m .rank) (prepared m .count) (prepared m .leader) (take (slots-in p) (m .prepare .last .1 .1 .1 .1 .1 .1 .1 .1 .1 .1 .0)) (m .prepare .result) (m .prepare .ensures .0) (keys .rising) (keys .some))
-
 shared-slice-read-order : tie.Need-shared-slice-read-order
 shared-slice-read-order c = search needs
 
@@ -142,7 +132,7 @@ returns c =
     let words = start .args .table .now in
     let order = c .before .is-order in
     let e : soundWith many words ≡ false = order-wrong many words (sym (order .ensures) ∙ not-true (order .result) (c .if1 .taken)) in
-    (unsound many words e, (λ t. absurd (true-or-false (soundWith many words) t e), (λ t. absurd (true-or-false (soundWith many words) t e), λ t. absurd (true-or-false (soundWith many words) t e))))
+    (unsound many words e, (λ t. absurd (true-or-false (soundWith many words) t e), λ t. absurd (true-or-false (soundWith many words) t e)))
 
 read-keys-requires : tie.Need-read-keys-requires
 read-keys-requires c κs =
@@ -170,7 +160,7 @@ returns-2 c =
     let many = slots-in p in
     let words = words-in p in
     let e : soundWith many words ≡ false = keys-do-not-rise many words (right p) (ap risesB (sym (read p)) ∙ sym (c .before .rises .ensures) ∙ not-true (c .before .rises .result) (c .if2 .taken)) in
-    (unsound many words e, (λ t. absurd (true-or-false (soundWith many words) t e), (λ t. absurd (true-or-false (soundWith many words) t e), λ t. absurd (true-or-false (soundWith many words) t e))))
+    (unsound many words e, (λ t. absurd (true-or-false (soundWith many words) t e), λ t. absurd (true-or-false (soundWith many words) t e)))
 
 slice-reshare-prefix-prepare : tie.Need-slice-reshare-prefix-prepare
 slice-reshare-prefix-prepare c = fits (rises-tested c)
@@ -268,12 +258,9 @@ returns-3 c =
       c .conclude .ensures ∙ verdict-is (slots-in p) (words-in p) (matches .result) (p .read-keys .result) (compares m ∙ sym (matches .ensures)) (p .read-keys .ensures .0),
       (
         λ t. p .read-keys .ensures .1 .0,
-        (
-          λ t.
-              p .read-keys .ensures .1 .1 (all-rise (tested m))
-              ∙ ap (λ (c : Contents). overwrite (begun p .args .tags .now) 0 (tagsIn c)) (sound-read (slots-in p) (words-in p) t),
-          λ t. standing-there m,
-        ),
+        λ t.
+            p .read-keys .ensures .1 .1 (all-rise (tested m))
+            ∙ ap (λ (c : Contents). overwrite (begun p .args .tags .now) 0 (tagsIn c)) (sound-read (slots-in p) (words-in p) t),
       ),
     )
 
