@@ -19,7 +19,7 @@ use Rattle.table.proofs.Entries.{with-right}
 use Rattle.table.proofs.Soundness.{shown-fit, sound-measures}
 use Rattle.table.proofs.Tagged.{tagged-keys, tagged-tags, tagged-is}
 use Rattle.table_prepare.specs.Prepared.{Keys}
-use Rattle.table_encode.specs.Encode.{StandingsOf}
+use Rattle.table_encode.proofs.Standings.{StandingsOf}
 use Rattle.text_pages.specs.Pages.{pagesOf}
 use Rattle.text_pages.specs.Claims.{pagesBytes}
 use Rattle.text_pages.specs.Shown.{shownPages, Printable}

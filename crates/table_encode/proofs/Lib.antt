@@ -4,4 +4,5 @@ pub mod Emitting
 pub mod Matching
 pub mod Renaming
 pub mod Fresh
+pub mod Standings
 pub mod Linking

@@ -16,10 +16,11 @@ use Rattle.treap_columns.specs.Columns.{leftColumn, rightColumn, rankColumn, co
 use Rattle.treap_columns.proofs.Filled.{column-at}
 use Rattle.table.specs.Tags.{tagged, Beside}
 use Rattle.table.specs.Table.{fresh}
-use Rattle.table_encode.specs.Encode.{keyAt, Columns, Linked, StandingsOf, wordsOf}
+use Rattle.table_encode.specs.Encode.{keyAt, Columns, Linked, wordsOf}
 use Rattle.table_encode.proofs.Fresh
 use Rattle.table_encode.proofs.Fresh.{Right, numbered, slots-within, words-are-fresh}
 use Rattle.table_encode.proofs.Renaming.{key-at-suc, keys-rename}
+use Rattle.table_encode.proofs.Standings.{StandingsOf}
 use Rattle.table_prepare.specs.Prepared.{Prepared}
 use Rattle.table_prepare.proofs.Preparing.{left-low, right-low, leader-low, root-low}
 

@@ -2,13 +2,10 @@
 -- Assumes nothing.
 use mathlib.Core.Bool.{cond}
 use mathlib.Core.List.{List, [], _∷_, _++_, flatMap}
-use mathlib.Core.Path.{_≡_}
 use Prim.Native.Nat.{ℕ, pred, _<_, _≤_}
 use lib.Dec.{eqb}
 use lib.ListN.{length, getD, replicate}
 use Rattle.measure.specs.Tag.{lengthIn, storedIn}
-use Rattle.priority.specs.Priority.{priorityOf}
-use Rattle.treap.specs.Levels.{rank, count, leader}
 use Rattle.table.specs.Layout.{slotWords}
 use Rattle.table_encode.specs.declared.Slot.{Slot}
 
@@ -56,13 +53,3 @@ pub record Linked (keys : List ℕ) (c : Columns) : Type 0 where
   pub left-within : (i : ℕ) → i < length keys → getD (c .left) i 0 ≤ length keys
   pub right-within : (i : ℕ) → i < length keys → getD (c .right) i 0 ≤ length keys
   pub leader-within : (i : ℕ) → i < length keys → getD (c .leader) i 0 ≤ length keys
-
--- Lists that have, at the index of each key, its rank, its count and its leader by an order; a leader is a position, or zero for none.
-pub record StandingsOf (order : ℕ) (keys ranks counts leaders : List ℕ) : Type 0 where
-  pub rank-long : length keys ≤ length ranks
-  pub count-long : length keys ≤ length counts
-  pub leader-long : length keys ≤ length leaders
-  pub rank-is : (i : ℕ) → i < length keys → getD ranks i 0 ≡ rank order priorityOf keys (getD keys i 0)
-  pub count-is : (i : ℕ) → i < length keys → getD counts i 0 ≡ count order priorityOf keys (getD keys i 0)
-  pub leader-within : (i : ℕ) → i < length keys → getD leaders i 0 ≤ length keys
-  pub leader-is : (i : ℕ) → i < length keys → keyAt keys (getD leaders i 0) ≡ leader order priorityOf keys (getD keys i 0)

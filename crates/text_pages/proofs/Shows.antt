@@ -16,7 +16,7 @@ use Rattle.table.specs.Layout.{mostSlots}
 use Rattle.table.specs.Contents.{Contents, Entry, keysIn, measureIn, rightMeasure}
 use Rattle.table.specs.Tags.{tagsIn, Beside}
 use Rattle.table.proofs.Tagged.{found-tagged, beside-of, tagged-is}
-use Rattle.table_encode.specs.Encode.{StandingsOf}
+use Rattle.table_encode.proofs.Standings.{StandingsOf}
 use Rattle.text_page_lines.specs.PageLines.{headingLine}
 use Rattle.text_page_lines.specs.Claims.{columnLimit}
 use Rattle.text_pages.specs.Pages.{lineOf, pageKeys, keysOn, pageOf, pageCount, pagesOf}

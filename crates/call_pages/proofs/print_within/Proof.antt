@@ -4,7 +4,7 @@ use mathlib.Core.Path.{sym, ap, subst}
 use Prim.Native.Nat.{ℕ}
 use native.Mathlib.Omega.{arith}
 use lib.ListN.{length, take}
-use Rattle.table_encode.specs.Encode.{StandingsOf}
+use Rattle.table_encode.proofs.Standings.{StandingsOf}
 use Rattle.table_encode.proofs.Linking.{standings}
 use Rattle.text.specs.Written.{Written}
 use Rattle.call_pages.proofs.Printing.{lists-printable, text-shown}
