@@ -3,6 +3,7 @@
 
 use crate::archive::{run_archive, Empty};
 use crate::call::{short, Call};
+use crate::ceiling::ceiling_faults;
 use crate::outcome::{differences, refusal_faults, Outcome};
 use crate::random::Random;
 use crate::second_program::run_second_program;
@@ -125,7 +126,7 @@ impl Case<'_> {
 
     /// Counts a call that was made on the table with these outcomes, and reports
     /// it if the programs differ, if the archive's two differ or are wrong in
-    /// themselves, or if there are faults already.
+    /// themselves, if a lookup goes beyond its ceiling, or if there are faults already.
     pub fn judge(
         &mut self,
         call: &Call,
@@ -139,6 +140,7 @@ impl Case<'_> {
         let before = Outcome::untouched(call, &self.table);
         faults.extend(differences(archive, second));
         faults.extend(refusal_faults(&before, archive));
+        faults.extend(ceiling_faults(call, &self.table, archive));
         self.tally.calls += 1;
         if !faults.is_empty() {
             self.report(call, archive, second, &faults);

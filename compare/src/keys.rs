@@ -41,6 +41,16 @@ impl Chain {
         };
         keys_outranking(&(0..number).map(place).collect::<Vec<_>>())
     }
+
+    /// The root and the deepest key of the chain that these keys are.
+    pub fn ends(self, keys: &[u64]) -> [u64; 2] {
+        let [first, last] = [keys[0], keys[keys.len() - 1]];
+        match self {
+            Chain::Right => [first, last],
+            Chain::Left => [last, first],
+            Chain::ToAndFro => [first, keys[keys.len() / 2]],
+        }
+    }
 }
 
 /// The first keys after one, rising, that have the home in so many slots.

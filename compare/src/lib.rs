@@ -5,6 +5,7 @@ pub mod archive;
 pub mod batches;
 pub mod call;
 pub mod case;
+pub mod ceiling;
 pub mod generator;
 pub mod keys;
 pub mod list;

@@ -11,6 +11,15 @@ pub struct Reply {
     pub numbers: Vec<(&'static str, u64)>,
 }
 
+impl Reply {
+    /// The number of that name, if the reply has one.
+    pub fn number(&self, name: &str) -> Option<u64> {
+        let mut numbers = self.numbers.iter();
+        let number = numbers.find(|(other, _)| *other == name)?;
+        Some(number.1)
+    }
+}
+
 /// A reply with all memory that the call was lent, as it is after the call.
 #[derive(Clone, Debug, PartialEq, Eq)]
 pub struct Outcome {

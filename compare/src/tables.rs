@@ -76,6 +76,15 @@ pub fn keys_in(table: &[u64]) -> Vec<u64> {
     keys
 }
 
+/// The rank of the key that the table's third word names as its root, as its slot says;
+/// 0 where no slot has it.
+pub fn root_rank_in(table: &[u64]) -> u64 {
+    let root = table.get(2).copied().filter(|&key| key != 0);
+    let mut slots = table.get(HEADER_WORDS..).unwrap_or(&[]).chunks(SLOT_WORDS);
+    let slot = slots.find(|slot| Some(slot[0]) == root);
+    slot.and_then(|slot| slot.get(4)).copied().unwrap_or(0)
+}
+
 /// The keys in the slots of a sound table, with their measures.
 pub fn set_in(table: &[u64]) -> Set {
     let slots = table[HEADER_WORDS..].chunks(SLOT_WORDS);

@@ -8,10 +8,11 @@ use common::{accepted_calls, table, KEYS};
 use compare::archive::{run_archive, Empty};
 use compare::call::{Call, Place};
 use compare::case::{Plan, Tally};
+use compare::keys::Chain;
 use compare::outcome::{differences, refusal_faults, Outcome};
 use compare::run::{is_good, Total, FEWEST_CALLS};
 use compare::second_program::run_second_program;
-use compare::tables::{listing_length, pages_length};
+use compare::tables::{listing_length, pages_length, sound_table};
 use reference::measure::Measure;
 
 /// One of each kind that is refused, on a table that is not one.
@@ -38,10 +39,20 @@ fn judged_pair(call: &Call, table: &[u64], change: impl Fn(&mut [Outcome; 2])) -
     let second = run_second_program(call, table);
     let mut archive = run_archive(call, table, Empty::Address);
     change(&mut archive);
+    judged_outcomes(call, table, &archive, &second)
+}
+
+/// The same of any outcomes.
+fn judged_outcomes(
+    call: &Call,
+    table: &[u64],
+    archive: &[Outcome; 2],
+    second: &Outcome,
+) -> (u64, u64) {
     let mut tally = Tally::new("can-fail", Plan::default());
     tally.case(|case| {
         case.table = table.to_vec();
-        case.judge(call, &archive, &second, vec![]);
+        case.judge(call, archive, second, vec![]);
     });
     (tally.calls, tally.failed)
 }
@@ -261,6 +272,28 @@ fn a_refusal_that_changes_memory_is_caught_though_both_agree() {
         change(&mut both);
         assert_eq!(differences(&both, &both), [""; 0]);
         assert_eq!(refusal_faults(&before, &both).len(), 1);
+    }
+}
+
+/// Both programs in agreement about a lookup of a chain's deepest key, which meets as
+/// many blocks as document 02 promises at most, and about one block more.
+#[test]
+fn a_block_beyond_the_ceiling_is_caught_though_both_agree() {
+    let few = [(3, 0, 0), (3, 1, 1), (3, 2, 1), (3, 3, 1), (3, 4, 2)];
+    let more = [(8, 8, 1), (8, 9, 2), (255, 255, 1), (255, 256, 2)];
+    for (order, number, most) in few.into_iter().chain(more) {
+        let keys = Chain::Right.keys(number);
+        let table = sound_table(number + 1, order, &keys);
+        let key = keys.last().copied().unwrap_or(9);
+        let call = Call::LookUp { key };
+        let mut both = run_archive(&call, &table, Empty::Address);
+        assert_eq!(both[0].reply.number("blocks"), Some(most));
+        let second = both[0].clone();
+        assert_eq!(judged_outcomes(&call, &table, &both, &second), (1, 0));
+        both.iter_mut()
+            .for_each(|outcome| outcome.reply.numbers[4].1 += 1);
+        let second = both[0].clone();
+        assert_eq!(judged_outcomes(&call, &table, &both, &second), (1, 1));
     }
 }
 

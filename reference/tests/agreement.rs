@@ -3,7 +3,7 @@
 
 mod common;
 
-use common::Random;
+use common::{permutations, Random};
 use reference::blocks::{
     blocks_by_definition, blocks_by_name, blocks_met_by_all_by_definition,
     blocks_met_by_all_by_name, blocks_met_by_definition, blocks_met_by_name,
@@ -88,19 +88,6 @@ fn forms_agree_on_lists_and_zigzags() {
 /// All sets of up to six keys in every outranking order, so all small treaps.
 #[test]
 fn forms_agree_on_all_treaps_of_up_to_six_keys() {
-    fn permutations(rest: &[u64]) -> Vec<Vec<u64>> {
-        if rest.is_empty() {
-            return vec![vec![]];
-        }
-        let mut all = vec![];
-        for (i, &first) in rest.iter().enumerate() {
-            let others = [&rest[..i], &rest[i + 1..]].concat();
-            for tail in permutations(&others) {
-                all.push([vec![first], tail].concat());
-            }
-        }
-        all
-    }
     for n in 0..=6 {
         let keys: Vec<u64> = (1..=n).map(|i| 2 * i).collect();
         for priorities in permutations(&keys) {

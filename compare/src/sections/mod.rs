@@ -3,6 +3,7 @@
 use crate::case::Tally;
 
 mod batches;
+mod ceilings;
 mod chains;
 mod damaged_images;
 mod damaged_measures;
@@ -38,12 +39,13 @@ pub struct Section {
 }
 
 /// All sections; the longest first, so that threads finish together.
-pub const SECTIONS: [Section; 25] = [
+pub const SECTIONS: [Section; 26] = [
     loads::SECTION,
     batches::SECTION,
     histories::SECTION,
     sets::SECTION,
     chains::SECTION,
+    ceilings::SECTION,
     homes::SECTION,
     full::SECTION,
     sizes::SECTION,

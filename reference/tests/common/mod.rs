@@ -1,4 +1,4 @@
-//! Random numbers, measures and sets for the tests.
+//! Random numbers, measures and sets for the tests, and what several of them use.
 #![allow(dead_code)]
 
 use reference::measure::Measure;
@@ -121,6 +121,21 @@ pub const WRONG: [Measure; 18] = [
     Measure::new(0, -5_000),
     Measure::new(0, i32::MIN),
 ];
+
+/// Every order in which the numbers can stand.
+pub fn permutations(rest: &[u64]) -> Vec<Vec<u64>> {
+    if rest.is_empty() {
+        return vec![vec![]];
+    }
+    let mut all = vec![];
+    for (i, &first) in rest.iter().enumerate() {
+        let others = [&rest[..i], &rest[i + 1..]].concat();
+        for tail in permutations(&others) {
+            all.push([vec![first], tail].concat());
+        }
+    }
+    all
+}
 
 /// Where an image has the bytes of measures.
 pub fn measure_bytes(image: &[u8]) -> Vec<usize> {
