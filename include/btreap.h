@@ -18,6 +18,14 @@
  * The pages.    A text to print and pin up, 50 keys a page: BTREAP_PAGES_BYTES(n) bytes for n keys, that is 49 for each key and 10 for
  *               each page, of which there is one at least; BTREAP_LONGEST_PAGES = 201,524 for 4,096 keys.
  *
+ * The ceiling.  In a table of order a with n keys, the keys that a lookup compares on its way down lie in at most (n - 1)/(a - 1)
+ *               different blocks, rounded up; in one when n is 1, in none when n is 0. It is proved for every table that is not refused,
+ *               and no lower one holds: of each order and number of keys some table reaches it. That a lookup first reads the whole
+ *               table, to judge it, is not counted. With n = 4,096 the ceilings are
+ *
+ *                   order      3    16    64   255
+ *                   blocks  2048   273    65    17
+ *
  * Any words, numbers and bytes may be handed in: each call replies, and a call that refuses changes none of the lent memory. `refusal` is
  * 0 when the call was accepted; all other numbers of a reply are 0 when it was refused, except the three of a step's place (next, high,
  * done), which then come back as they were passed. Of several refusals the one is given that the call names first; each call names its
@@ -136,8 +144,8 @@ struct btreap_ranked btreap_insert(uint64_t *table, size_t words, uint64_t key, 
 struct btreap_ranked btreap_delete(uint64_t *table, size_t words, uint64_t key);
 
 /* Look a key up: held is 1 or 0; rank, count and leader of a held key and its length and correction, zeros for an absent one; and how many
- * different blocks hold the keys that were compared on the way down. A key that is not measured has length 0 and correction 0. The
- * correction fits an int32_t. Refusals: 1, 3, 7. */
+ * different blocks hold the keys that were compared on the way down, at most the ceiling above. A key that is not measured has length 0
+ * and correction 0. The correction fits an int32_t. Refusals: 1, 3, 7. */
 struct btreap_found btreap_lookup(const uint64_t *table, size_t words, uint64_t key);
 
 /* Look n keys up together, such as those of one order sheet: the table is judged once for all of them. The keys rise strictly, and none is

@@ -1,5 +1,6 @@
-//! Document 02's ceiling for lookups: its figures, random sets and every small treap
-//! within it, chains that reach it, and a table without keys; by both forms.
+//! Document 02's ceiling for lookups: its figures; every small treap within it, by the
+//! literal form; random sets within it, chains that reach it and a table without keys,
+//! by both forms.
 
 mod common;
 
@@ -65,9 +66,12 @@ impl Library {
 // ---------------------------------------------------------------------------
 // The figures
 
+/// Orders and the ceilings of 4,096 keys.
+const FULLEST: [(u64, u64); 4] = [(3, 2048), (16, 273), (64, 65), (255, 17)];
+
 #[test]
 fn the_ceilings_of_the_fullest_table() {
-    for (order, most) in [(3, 2048), (16, 273), (64, 65), (255, 17)] {
+    for (order, most) in FULLEST {
         assert_eq!(rank_ceiling(order, 4096), most);
         assert_eq!(blocks_ceiling(order, 4096, most), most);
     }
@@ -118,12 +122,15 @@ fn the_ceilings_are_rounded_up() {
 // Sets within it
 
 /// The most blocks that a lookup may meet, with so many keys and a root of that rank.
-/// "that many" is the ceiling of the rank; the rank itself is no more and holds too.
+/// "that many" is the ceiling of the rank; the rank itself, or one, is no more and holds
+/// too.
 #[track_caller]
 fn most_blocks(order: u64, keys: u64, root_rank: u64) -> u64 {
     let ceiling = rank_ceiling(order, keys);
     assert!(root_rank <= ceiling, "{root_rank} > {ceiling}");
-    blocks_ceiling(order, keys, root_rank).min(root_rank.max(1))
+    let most = root_rank.max(1);
+    assert!(most <= blocks_ceiling(order, keys, root_rank));
+    most
 }
 
 /// Both forms stay within the ceilings; gives how many lookups meet the most blocks.
@@ -297,7 +304,7 @@ fn long_chains_reach_it() {
 #[test]
 fn the_fullest_chains_reach_its_figures() {
     let keys = falling_priorities();
-    for (order, most) in [(3, 2048), (16, 273), (64, 65), (255, 17)] {
+    for (order, most) in FULLEST {
         for library in by_both_forms(order, &keys) {
             assert_eq!(library.root_rank(), most);
             assert_eq!(library.blocks(keys[4095]), most);

@@ -93,7 +93,8 @@ fn unless_refused<T>(number: u64, result: T) -> Result<T, Refusal> {
     }
 }
 
-/// What a lookup finds. `blocks` is how many different blocks hold the keys that it compared on its way down.
+/// What a lookup finds. `blocks` is how many different blocks hold the keys that it compared on its way down: in a table of order α with n
+/// keys at most (n − 1)/(α − 1), rounded up; one when n is 1, none when n is 0.
 #[derive(Clone, Copy, Debug, PartialEq, Eq)]
 pub enum Found {
     Held { rank: u64, count: u64, leader: u64, blocks: u64, measure: Measure },

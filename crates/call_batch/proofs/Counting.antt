@@ -9,21 +9,22 @@ use lib.Dec.{ltb}
 use lib.ListN.{length}
 use borrow.Author.Tests.{ltb-true}
 use Rattle.lists.specs.Lists.{keep, some, All, Rising}
-use Rattle.lists.proofs.Tests.{lies-says, and-left, and-right}
+use Rattle.lists.proofs.Tests.{and-left, and-right}
 use Rattle.lists.proofs.Keep.{all-map, all-always, keep-same, length-keep}
 use Rattle.priority.specs.Priority.{priorityOf}
 use Rattle.treap.specs.Blocks.{Block, blocks, meets, blocksMetByAll}
-use Rattle.table.specs.Layout.{mostSlots, leastOrder, greatestOrder}
-use Rattle.table.specs.Contents.{Contents, tableOrder, keysIn}
-use Rattle.table.proofs.Soundness.{shown-fit, shown-nonzero, sound-order, sound-rises}
+use Rattle.table.specs.Layout.{mostSlots}
+use Rattle.table.specs.Contents.{Contents, keysIn}
+use Rattle.table.proofs.Soundness.{shown-fit, shown-nonzero}
 use Rattle.table_limits.specs.Lengths.{slotsFor}
 use Rattle.table_limits.proofs.Lengths.{slots-for-some}
 use Rattle.table_judge.specs.Judge.{isSound}
-use Rattle.table_judge.proofs.Decides.{some-slots, passed-with}
+use Rattle.table_judge.proofs.Decides.{some-slots}
 use Rattle.table_descend.specs.Lookup.{earlier, newlyMet}
 use Rattle.table_descend.proofs.InRow.{Falling, lastOf, beforeOf, none-met, one-more}
 use Rattle.image.proofs.ImageOrder.{blocks-few}
 use Rattle.call_meaning.specs.Reasons.{shown}
+use Rattle.call_meaning.proofs.Lookups.{shown-wide, shown-rises}
 use Rattle.call_batch.specs.Answering.{nothingAsked, lineAfter, progress, Ready, Askable}
 use Rattle.call_batch.specs.declared.Progress.{Progress}
 use Rattle.call_batch.proofs.KeysRise.{rises}
@@ -32,13 +33,11 @@ module _ (words : List ℕ) (sound : isSound words ≡ true) where
   abbrev c : Contents
   c = shown words
 
-  wide : 2 ≤ c .order
-  unfolding shown tableOrder
-  wide = omega (arith, lies-says leastOrder greatestOrder (c .order) (sound-order (slotsFor (length words)) words (passed-with words sound)) .0)
+  abbrev wide : 2 ≤ c .order
+  wide = shown-wide words sound
 
-  rising : Rising (keysIn c)
-  unfolding shown
-  rising = sound-rises (slotsFor (length words)) words (passed-with words sound)
+  abbrev rising : Rising (keysIn c)
+  rising = shown-rises words sound
 
   positive : All (λ k. 1 ≤ k) (keysIn c)
   unfolding shown

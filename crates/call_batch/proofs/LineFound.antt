@@ -6,7 +6,6 @@ use mathlib.Core.Path.{_≡_, refl, ap, _∙_}
 use Prim.Native.Nat.{ℕ, _+_, _≤_}
 use native.Mathlib.Omega.{arith}
 use lib.ListN.{length}
-use borrow.Author.Tests.{ne-eqb}
 use Rattle.lists.specs.Lists.{member}
 use Rattle.lists.proofs.Tests.{by-test}
 use Rattle.lists.proofs.Keep.{length-keep}
@@ -16,13 +15,13 @@ use Rattle.table.specs.Layout.{mostSlots}
 use Rattle.table.specs.Table.{contentsOf}
 use Rattle.table_limits.specs.Lengths.{slotsFor}
 use Rattle.table_judge.specs.Judge.{isSound}
-use Rattle.table_judge.proofs.Decides.{some-slots}
 use Rattle.table_descend.specs.Lookup.{standingOf, earlier, newlyMet, lookedUpAfter}
 use Rattle.table_descend.specs.declared.Looked.{Looked}
 use Rattle.table.specs.Contents.{keysIn}
 use Rattle.table_descend.specs.declared.Looked.the-variants.{Held, Absent}
-use Rattle.call_meaning.specs.Reasons.{wrongLength, zeroKey, notSound, shown}
+use Rattle.call_meaning.specs.Reasons.{shown}
 use Rattle.call_meaning.specs.Calls.{rankIn, standingIn, lookupRefusal, lookupReply}
+use Rattle.call_meaning.proofs.Lookups.{lookup-accepted}
 use Rattle.call_batch.specs.Batch.{heldBy, rankBy}
 use Rattle.call_batch.specs.Answering.{lineAfter}
 use Rattle.call_batch.specs.declared.Progress.{Progress}
@@ -39,10 +38,8 @@ newIn (Held s n) = n
 newIn (Absent n) = n
 
 module _ (words : List ℕ) (sound : isSound words ≡ true) (key : ℕ) (positive : 1 ≤ key) where
-  -- a lookup of the key is accepted
   accepted : lookupRefusal words key ≡ 0
-  unfolding lookupRefusal wrongLength zeroKey notSound
-  accepted = rw (ne-eqb (slotsFor (length words)) 0 (some-slots words sound), ne-eqb key 0 (λ e. omega arith), sound) refl
+  accepted = lookup-accepted words sound key (λ e. omega arith)
 
   held-is : heldBy words key ≡ cond (member key (keysIn (shown words))) 1 0
   unfolding heldBy lookupReply standingIn

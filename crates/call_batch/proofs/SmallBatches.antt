@@ -3,7 +3,7 @@ use mathlib.Core.List.{List, [], _∷_}
 use mathlib.Core.Path.{_≡_, refl, ap, _∙_}
 use Prim.Native.Nat.{ℕ}
 use lib.Dec.{eqb}
-use lib.ListN.{length, getD}
+use lib.ListN.{length}
 use Rattle.lists.specs.Lists.{member}
 use Rattle.lists.proofs.Tests.{by-test}
 use Rattle.table.specs.Contents.{risingKeys, keysIn}
@@ -13,7 +13,7 @@ use Rattle.table_descend.proofs.InRow.{none-met, alone-met}
 use Rattle.call_replies.specs.Replies.{unlessRefused}
 use Rattle.call_replies.proofs.Refusals.{both-same}
 use Rattle.call_meaning.specs.Reasons.{wrongLength, zeroKey, notRising, notSound, shown}
-use Rattle.call_meaning.specs.Calls.{standingIn, lookupRefusal, lookupReply}
+use Rattle.call_meaning.specs.Calls.{standingIn, lookupRefusal, lookupReply, blocksTold}
 use Rattle.call_batch.specs.Batch.{batchRefusal, batchReply}
 use Rattle.call_batch.specs.Claims.{SmallBatches}
 use Rattle.call_batch.specs.declared.Question.{Question}
@@ -23,8 +23,8 @@ unfolding batchReply
 no-line words =
     ap (λ (n : ℕ). unlessRefused (batchRefusal words []) (n ∷ []) (0 ∷ [])) (none-met (shown words)) ∙ both-same (batchRefusal words []) (0 ∷ [])
 
-one-line : (words : List ℕ) (q : Question) → batchReply words (q ∷ []) .numbers ≡ getD (lookupReply words (q .key) .numbers) 4 0 ∷ []
-unfolding batchReply batchRefusal lookupReply lookupRefusal wrongLength zeroKey notRising notSound risingKeys standingIn
+one-line : (words : List ℕ) (q : Question) → batchReply words (q ∷ []) .numbers ≡ blocksTold (lookupReply words (q .key)) ∷ []
+unfolding batchReply batchRefusal blocksTold lookupReply lookupRefusal wrongLength zeroKey notRising notSound risingKeys standingIn
 one-line words q =
     ap (λ (n : ℕ). unlessRefused (batchRefusal words (q ∷ [])) (n ∷ []) (0 ∷ [])) (alone-met (shown words) (q .key))
     ∙ by-test (eqb (slotsFor (length words)) 0)

@@ -2,3 +2,4 @@
 pub mod Judged
 pub mod Shows
 pub mod Texts
+pub mod Lookups

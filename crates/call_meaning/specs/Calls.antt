@@ -3,7 +3,7 @@ use mathlib.Core.Bool.{cond}
 use mathlib.Core.List.{List, [], _∷_, _++_}
 use Prim.Native.Nat.{ℕ}
 use lib.IntN.{ℤ, pos}
-use lib.ListN.{length}
+use lib.ListN.{length, getD}
 use Rattle.lists.specs.Lists.{member, overwrite}
 use Rattle.measure.specs.Measure.{Measure, measuresBeside}
 use Rattle.priority.specs.Priority.{priorityOf}
@@ -141,6 +141,10 @@ lookupReply words key =
           ++ (blocksMet (shown words .order) priorityOf (keysIn (shown words)) key ∷ measureIn (shown words .entries) key .length ∷ []))
           (0 ∷ 0 ∷ 0 ∷ 0 ∷ 0 ∷ 0 ∷ []);
     }
+
+-- "The number of different blocks" in its reply: it comes after held or absent, rank, count and leader.
+unfoldable pub blocksTold : Reply → ℕ
+blocksTold reply = getD (reply .numbers) 4 0
 
 -- The correction that it gives beside these numbers.
 unfoldable pub lookupCorrection : List ℕ → ℕ → ℤ

@@ -13,7 +13,8 @@ use Rattle.treap.specs.Blocks.{Block, blocks}
 use Rattle.treap_structure.proofs.Bounds.{rank-at-most, count-at-most, top-one, leftLink-one, rightLink-one, leaders-one, levels-at-most}
 use Rattle.table.specs.Layout.{mostSlots}
 use Rattle.table.specs.Contents.{Contents, IsKey, Valid, keysIn, measureIn}
-use Rattle.image.proofs.Lengths.{order-within, blocks-fit}
+use Rattle.table.proofs.Orders.{order-within}
+use Rattle.image.proofs.Lengths.{blocks-fit}
 use Rattle.image.proofs.Reading.{Readable, blocks-readable, measured-right}
 
 -- The number fits a field of one, two, four, eight bytes.
@@ -65,7 +66,7 @@ module _ (c : Contents) (valid : Valid mostSlots c) where
   pub header-fits : HeaderFits c
   header-fits =
       record {
-        order = order-within c valid .1;
+        order = order-within (c .order) (valid .order-right) .1;
         size = omega (arith, few);
         number = omega (arith, few, blocks-fit c valid);
         root = top-one InWord no-key priorityOf (keysIn c) sized;

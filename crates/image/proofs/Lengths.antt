@@ -3,12 +3,12 @@
 use mathlib.Core.Bool.{Bool}
 use mathlib.Core.List.{List, [], _∷_, flatMap}
 use mathlib.Core.Path.{_≡_, refl, ap, _∙_}
-use Prim.Native.Nat.{ℕ, suc, _+_, _≤_, _<_}
+use Prim.Native.Nat.{ℕ, suc, _+_, _≤_}
 use native.Mathlib.Omega.{arith}
 use lib.Dec.{eqb}
 use lib.ListN.{length, length-append, length-map}
 use Rattle.lists.specs.Lists.{All, Rising, keep, nonzero}
-use Rattle.lists.proofs.Tests.{by-test, lies-says}
+use Rattle.lists.proofs.Tests.{by-test}
 use Rattle.lists.proofs.Keep.{all-always, all-append, length-keep}
 use Rattle.lists.proofs.FlatMap.{all-flatMap, length-flatMap-headed}
 use Rattle.lists.proofs.Sorting.{sortBy-permutes}
@@ -20,20 +20,14 @@ use Rattle.treap.specs.Levels.{rank, count}
 use Rattle.treap.specs.Blocks.{Block, blocks}
 use Rattle.treap.specs.Image.{headerRecord, blockRecord, nodeOf, blockPart, image}
 use Rattle.image.proofs.ImageOrder.{before, image-order, held-total, blocks-few}
-use Rattle.table.specs.Layout.{mostSlots, leastOrder, greatestOrder}
-use Rattle.table.specs.Contents.{Entry, Contents, Valid, tableOrder, entryKeys, keysIn, measureIn}
+use Rattle.table.specs.Layout.{mostSlots}
+use Rattle.table.specs.Contents.{Entry, Contents, Valid, entryKeys, keysIn, measureIn}
+use Rattle.table.proofs.Orders.{order-wide}
 use Rattle.table.proofs.Entries.{found-self}
 use Rattle.image.specs.Layout.{blockBytes, recordBytes, imageBytes, mostBytes, IsByte}
 use Rattle.image.specs.Image.{imageOf, measuredIn}
 use Rattle.image.proofs.PartLengths.{nodes-length}
 use Rattle.image.proofs.Records.{header-length, block-length, node-length, header-bytes, block-bytes, node-bytes}
-
--- "The order α is 3 to 255."
-pub order-within : {most : ℕ} (c : Contents) → Valid most c → (3 ≤ c .order) × (c .order < 256)
-unfolding tableOrder
-order-within c valid =
-    let within = lies-says leastOrder greatestOrder (c .order) (valid .order-right) in
-    omega arith
 
 -- The key is measured.
 abbrev pub hasMeasure : (ℕ → Measure) → ℕ → Bool
@@ -90,7 +84,7 @@ measured-keys es rise = go es (found-self es rise)
 
 module _ {most : ℕ} (c : Contents) (valid : Valid most c) where
   wide : 2 ≤ c .order
-  wide = omega (arith, order-within c valid)
+  wide = order-wide (c .order) (valid .order-right)
 
   measured-held : length (keep (hasMeasure (measureIn (c .entries))) (flatMap (λ b. b .held) (blocks (c .order) priorityOf (keysIn c)))) ≡ measuredIn c
   unfolding measuredIn

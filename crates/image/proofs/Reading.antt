@@ -23,11 +23,12 @@ use Rattle.treap_structure.proofs.Blocks.{Holds, blocks-hold}
 use Rattle.image.proofs.ImageOrder.{before, image-order, held-total}
 use Rattle.table.specs.Layout.{mostSlots}
 use Rattle.table.specs.Contents.{Entry, Contents, IsKey, Valid, keysIn, measureIn, keyBelow}
+use Rattle.table.proofs.Orders.{order-within, order-wide}
 use Rattle.table.proofs.Entries.{found-right, entryAt, entries-by-keys, sorted-entries}
 use Rattle.image.specs.Layout.{headerBytes, blockBytes, orderAt, blocksAt, heldAt}
 use Rattle.image.specs.Image.{imageOf, fieldAt, nodeSpan, entryShown, nodeEntries, nodesSpan, blockEntries, readImage}
 use Rattle.image.proofs.Records.{header-order, header-blocks, header-dropped, block-held, block-dropped, node-length, node-span, node-shown}
-use Rattle.image.proofs.Lengths.{order-within, blocks-fit}
+use Rattle.image.proofs.Lengths.{blocks-fit}
 
 -- A block whose records show its keys.
 pub record Readable (b : Block) : Type 0 where
@@ -128,7 +129,7 @@ module _ (α : ℕ) (p : ℕ → ℕ) (m : ℕ → Measure) (ks : List ℕ) wher
 -- ---- an image
 module _ (c : Contents) (valid : Valid mostSlots c) where
   wide : 2 ≤ c .order
-  wide = omega (arith, order-within c valid)
+  wide = order-wide (c .order) (valid .order-right)
 
   pub blocks-readable : All Readable (blocks (c .order) priorityOf (keysIn c))
   blocks-readable =
@@ -147,7 +148,7 @@ module _ (c : Contents) (valid : Valid mostSlots c) where
   unfolding imageOf image
   order-read =
       let bs = blocks (c .order) priorityOf (keysIn c) in
-      header-order (c .order) (length (keysIn c)) (length bs) (top priorityOf (keysIn c)) (flatMap (blockPart (c .order) priorityOf (measureIn (c .entries)) (keysIn c)) bs) (order-within c valid .1)
+      header-order (c .order) (length (keysIn c)) (length bs) (top priorityOf (keysIn c)) (flatMap (blockPart (c .order) priorityOf (measureIn (c .entries)) (keysIn c)) bs) (order-within (c .order) (valid .order-right) .1)
 
   pub number-read : fieldAt blocksAt countBytes (imageOf c) ≡ length (blocks (c .order) priorityOf (keysIn c))
   unfolding imageOf image

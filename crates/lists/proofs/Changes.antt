@@ -1,9 +1,9 @@
--- Changes of level along a list whose levels never rise, counted where the element passes a test: the different levels of those that pass.
--- Assumes nothing.
+-- Changes of level along a list whose levels never rise, counted where the element passes a test: the different levels of those that pass, and
+-- how many there can be. Assumes nothing.
 use mathlib.Core.Bool.{Bool, true, false, cond, not, _&&_}
 use mathlib.Core.List.{List, [], _∷_, map}
 use mathlib.Core.Logic.{_⊎_, _≢_, ⊎-elim}
-use mathlib.Core.Path.{_≡_, refl, sym, ap, _∙_}
+use mathlib.Core.Path.{_≡_, refl, sym, ap, _∙_, subst}
 use Prim.Native.Nat.{ℕ, suc, _+_, _<_, _≤_}
 use native.Mathlib.Omega.{arith}
 use lib.Dec.{eqb}
@@ -12,7 +12,7 @@ use borrow.Author.Tests.{eqb-true, eqb-false, eq-eqb}
 use Rattle.lists.specs.Lists.{consIf, keep, member, distinct, All, Pairwise}
 use Rattle.lists.proofs.Tests.{by-test, true-or-false, and-left, and-right, and-false-right}
 use Rattle.lists.proofs.Keep.{all-map, all-keep, all-mapped}
-use Rattle.lists.proofs.Membership.{eqb-same, all-member, not-member, member-keep, mapped-from}
+use Rattle.lists.proofs.Membership.{eqb-same, all-member, all-of-members, not-member, member-keep, mapped-from}
 
 -- `more` is one above `met` where the test passes, else the same.
 abbrev pub Counted : Bool → ℕ → ℕ → Type 0
@@ -20,6 +20,23 @@ Counted test met more = ((test ≡ true) × (more ≡ met + 1)) ⊎ ((test ≡ f
 
 pub counted-most : (test : Bool) (met more : ℕ) → Counted test met more → more ≤ met + 1
 counted-most test met more h = ⊎-elim (λ w. omega (arith, w .1)) (λ w. omega (arith, w .1)) h
+
+-- a list that never rises, of numbers from `low` on and below `high`, has at most so many different ones
+pub distinct-few : (low high : ℕ) (xs : List ℕ) → low ≤ high → All (λ x. (low ≤ x) × (x < high)) xs → Pairwise (λ x y. y ≤ x) xs → length (distinct xs) + low ≤ high
+distinct-few low high [] h a s = omega arith
+distinct-few low high (x ∷ xs) h a s =
+    by-test (member x xs)
+    (λ e. rw e (distinct-few low high xs h (a .1) (s .1)))
+    (λ e. let bounds = a .0 in rw e (omega (arith, distinct-few low x xs (omega arith) (lower e) (s .1))))
+  where
+    lower : member x xs ≡ false → All (λ y. (low ≤ y) × (y < x)) xs
+    lower e =
+        all-of-members (λ y. (low ≤ y) × (y < x)) xs
+        (λ y m.
+        let bounds = all-member (λ z. (low ≤ z) × (z < high)) xs y (a .1) m in
+        let falls = all-member (λ z. z ≤ x) xs y (s .0) m in
+        let apart : y ≢ x = λ q. true-or-false (member x xs) (subst (λ (z : ℕ). member z xs ≡ true) q m) e in
+        (omega arith, omega arith))
 
 module _ (level : ℕ → ℕ) (f : ℕ → Bool) where
   -- An element of another level than the one before that passes the test.

@@ -100,6 +100,10 @@ unfolding flatMap
 flatMap-mapped g f [] = refl
 flatMap-mapped {C = C} g f (x ∷ xs) = ap (λ (ys : List C). g (f x) ++ ys) (flatMap-mapped g f xs)
 
+pub length-falling : (n : ℕ) → length (fallingFrom n) ≡ n
+length-falling zero = refl
+length-falling (suc n) = ap suc (length-falling n)
+
 pub falling-within : (n : ℕ) → All (λ i. (1 ≤ i) × (i ≤ n)) (fallingFrom n)
 falling-within zero = tt
 falling-within (suc n) = (omega arith, all-map (λ i. (1 ≤ i) × (i ≤ n)) (λ i. (1 ≤ i) × (i ≤ suc n)) (λ i h. omega arith) (fallingFrom n) (falling-within n))

@@ -1,5 +1,5 @@
 -- Laws of `keep`, the filter by a Bool test, and of `All`. Assumes nothing.
-use mathlib.Core.Bool.{Bool, true, false, _||_}
+use mathlib.Core.Bool.{Bool, true, false, _||_, not}
 use mathlib.Core.List.{List, [], _∷_, _++_, map}
 use mathlib.Core.Path.{_≡_, refl, sym, ap, ap₂, _∙_, subst}
 use Prim.Native.Nat.{ℕ, zero, suc, _+_, _≤_, _<_}
@@ -111,6 +111,13 @@ module _ {A : Type 0} where
       by-test (f x)
       (λ e. rw (e, h .0 e) (omega arith))
       (λ e. by-test (g x) (λ i. rw (e, i) (omega arith)) (λ i. rw (e, i) (omega arith)))
+
+  -- what passes and what does not are the whole
+  pub length-keep-not : (f : A → Bool) (xs : List A) → length (keep f xs) + length (keep (λ x. not (f x)) xs) ≡ length xs
+  length-keep-not f [] = refl
+  length-keep-not f (x ∷ xs) =
+      let ih = length-keep-not f xs in
+      by-test (f x) (λ e. rw e (omega arith)) (λ e. rw e (omega arith))
 
   -- what is kept first was in the list and passes
   pub some-kept : (f : A → Bool) (P : A → Type 0) (xs : List A) → All P xs → 0 < length (keep f xs) → (x : A) × P x × (f x ≡ true)

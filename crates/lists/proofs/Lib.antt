@@ -1,5 +1,6 @@
--- Laws on lists, one subject a file. Nothing here knows of treaps or tables.
+-- Laws on lists and numbers, one subject a file. Nothing here knows of treaps or tables.
 pub mod Tests
+pub mod Rounding
 pub mod Keep
 pub mod Membership
 pub mod Pairwise

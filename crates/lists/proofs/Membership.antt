@@ -20,6 +20,10 @@ all-member P [] x h m = absurd (true-or-false false m refl)
 all-member P (y ∷ ys) x h m =
     ⊎-elim (λ e. subst P (sym (eqb-true x y e)) (h .0)) (λ e. all-member P ys x (h .1) e) (or-true-cases (eqb x y) (member x ys) m)
 
+pub a-member : (xs : List ℕ) → 1 ≤ length xs → (x : ℕ) × (member x xs ≡ true)
+a-member [] h = absurd (omega arith)
+a-member (x ∷ xs) h = (x, or-true-left (eqb x x) (member x xs) (eqb-same x))
+
 pub all-of-members : (P : ℕ → Type 0) (xs : List ℕ) → ((x : ℕ) → member x xs ≡ true → P x) → All P xs
 all-of-members P [] f = tt
 all-of-members P (y ∷ ys) f =

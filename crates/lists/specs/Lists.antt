@@ -1,8 +1,8 @@
--- Plain definitions on lists that the specifications of every layer share. Tests are Bools, so that they compute.
+-- Plain definitions on lists and numbers that the specifications of every layer share. Tests are Bools, so that they compute.
 -- Assumes nothing.
 use mathlib.Core.Bool.{Bool, true, false, cond, _||_, _&&_, not}
 use mathlib.Core.List.{List, [], _∷_, _++_}
-use Prim.Native.Nat.{ℕ, zero, suc, _+_, _<_}
+use Prim.Native.Nat.{ℕ, zero, suc, _+_, _-_, _/_, _<_}
 use lib.Dec.{eqb, ltb, leb}
 use lib.ListN.{length, take, drop}
 
@@ -69,6 +69,10 @@ nonzero n = not (eqb n 0)
 -- "from low to high, both included"
 unfoldable pub lies : ℕ → ℕ → ℕ → Bool
 lies low high n = leb low n && leb n high
+
+-- `a` over `b`, rounded up, for a `b` that is not zero.
+unfoldable pub roundedUp : ℕ → ℕ → ℕ
+roundedUp a b = (a + (b - 1)) / b
 
 -- `x` is one of the numbers of the list.
 abbrev pub member : ℕ → List ℕ → Bool

@@ -1,4 +1,5 @@
 -- Laws of the table's words, one subject a file.
+pub mod Orders
 pub mod Entries
 pub mod Tagged
 pub mod Words

@@ -10,7 +10,7 @@ use lib.Dec.{eqb, ltb}
 use lib.ListN.{length}
 use borrow.Author.Tests.{eqb-true, eqb-false, eq-eqb, ltb-true, ltb-false, lt-ltb, le-ltb}
 use Rattle.lists.specs.Lists.{nonzero, some, member, All, Rising}
-use Rattle.lists.proofs.Tests.{by-test, same-test, lies-says, or-true-left, nonzero-when, and-both}
+use Rattle.lists.proofs.Tests.{by-test, same-test, or-true-left, nonzero-when, and-both}
 use Rattle.lists.proofs.Keep.{all-map}
 use Rattle.lists.proofs.Membership.{all-member}
 use Rattle.lists.proofs.Changes.{new, changes, changes-same, Counted, counted-on, counted-most}
@@ -19,16 +19,16 @@ use Rattle.treap.specs.Treap.{Tree, keys, rootKey, subtree, path, top, treap}
 use Rattle.treap.specs.Treap.Tree.{leaf}
 use Rattle.treap.specs.Levels.{leader}
 use Rattle.treap.specs.Blocks.{Block, rootRank, rootBlock, block, blocks, meets}
-use Rattle.treap_structure.proofs.Shape.{size, length-keys, top-member, treap-keys, treap-good}
-use Rattle.treap_structure.proofs.Subtrees.{good-subtree}
+use Rattle.treap_structure.proofs.Shape.{size, top-member, treap-keys, treap-good, treap-size}
+use Rattle.treap_structure.proofs.Subtrees.{good-subtree, root-subtree}
 use Rattle.treap_structure.proofs.Blocks.{top-is-root, blockLevel, blockOf, level-of-root}
-use Rattle.treap_structure.proofs.Descent.{root-subtree, zero-subtree, side, path-begins, path-here, path-on, side-smaller, member-on}
+use Rattle.treap_structure.proofs.Descent.{zero-subtree, side, path-begins, path-here, path-on, side-smaller, member-on}
 use Rattle.treap_structure.proofs.Children.{child, positive-in-tree, has-root, some-root, own-path, side-is, child-key, goes-by, comes-by}
 use Rattle.treap_structure.proofs.Entrances.{ofLevel}
 use Rattle.treap_structure.proofs.MetBetween.{root-met}
 use Rattle.treap_structure.proofs.NewBlocks.{new-blocks-change}
-use Rattle.table.specs.Layout.{leastOrder, greatestOrder}
-use Rattle.table.specs.Contents.{Contents, tableOrder, IsKey, Valid, keysIn}
+use Rattle.table.specs.Contents.{Contents, IsKey, Valid, keysIn}
+use Rattle.table.proofs.Orders.{order-wide}
 use Rattle.table_entries.specs.Steps.{nextKey}
 use Rattle.table_descend.specs.Lookup.{standingOf, earlier, newlyMet, lookedUpAfter}
 use Rattle.table_descend.specs.Entering.{firstBlock, otherThan, newBlock, lowAfter}
@@ -79,8 +79,7 @@ module _ (many : ℕ) (c : Contents) (valid : Valid many c) where
   t = treap priorityOf (keysIn c)
 
   wide : 2 ≤ c .order
-  unfolding tableOrder
-  wide = omega (arith, lies-says leastOrder greatestOrder (c .order) (valid .order-right) .0)
+  wide = order-wide (c .order) (valid .order-right)
 
   rising : Rising ks
   rising = valid .keys-rise
@@ -144,7 +143,7 @@ module _ (many : ℕ) (c : Contents) (valid : Valid many c) where
           held = ap (λ z. member key (keys z)) whole ∙ ap (member key) (treap-keys p ks rising);
           along = λ q h k. ap (member root) (path-begins t q some .1) ∙ or-true-left (eqb root (rootKey t)) _ (eq-eqb root (rootKey t) at-top) ∙ sym (lt-ltb 0 q h);
           counted = begun (path-begins t key some);
-          few = omega (arith, at-most (eqb last 0), ap size whole, length-keys t, ap length (treap-keys p ks rising));
+          few = omega (arith, at-most (eqb last 0), ap size whole, treap-size p ks rising);
         }
       where
         at-most : (b : Bool) → cond b 1 0 ≤ 1

@@ -19,11 +19,12 @@ use Rattle.treap.specs.Image.{orderBytes, countBytes, keyBytes, headerRecord, b
 use Rattle.treap_structure.proofs.Blocks.{Holds, blocks-hold}
 use Rattle.table.specs.Layout.{mostSlots}
 use Rattle.table.specs.Contents.{Contents, Valid, keysIn, measureIn}
+use Rattle.table.proofs.Orders.{order-within, order-wide}
 use Rattle.image.specs.Layout.{headerBytes, blockBytes, orderAt, sizeAt, blocksAt, rootAt, heldAt, mostBytes, IsByte}
 use Rattle.image.specs.Image.{imageOf, readImage, isImage, fieldAt, nodesSpan}
 use Rattle.image.proofs.Judging.{is-image-says}
 use Rattle.image.proofs.Records.{header-length, header-order, header-blocks, header-dropped, block-held, block-dropped, node-key}
-use Rattle.image.proofs.Lengths.{blockPart-length, order-within, image-longest}
+use Rattle.image.proofs.Lengths.{blockPart-length, image-longest}
 use Rattle.image.proofs.Reading.{nodeOf-left, nodes-first, nodes-span}
 use Rattle.image.proofs.Fits.{HeaderFits, BlockFits, NodeFits, header-fits, blocks-fit-fields, nodes-fit-fields}
 use Rattle.text_listing.specs.Listing.{keyLineOf, blockLines, listing, listingOf}
@@ -131,7 +132,7 @@ module _ (c : Contents) where
 -- ---- an image
 module _ (c : Contents) (valid : Valid mostSlots c) where
   wide : 2 ≤ c .order
-  wide = omega (arith, order-within c valid)
+  wide = order-wide (c .order) (valid .order-right)
 
   abbrev all-blocks : List Block
   all-blocks = blocks (c .order) priorityOf (keysIn c)
@@ -194,7 +195,7 @@ module _ (c : Contents) (valid : Valid mostSlots c) where
       let fits = header-fits c valid in
       record {
         header = header-there;
-        order-least = omega (arith, order-read fits, order-within c valid);
+        order-least = omega (arith, order-read fits, order-within (c .order) (valid .order-right));
         order-most = omega (arith, order-read fits, fits .order);
         keys-most = omega (arith, size-read fits, fits .size);
         blocks-most = omega (arith, number-read fits, fits .number);

@@ -7,7 +7,7 @@ use lib.Dec.{eqb, ltb}
 use lib.ListN.{length, take, drop}
 use lib.Seq.{slice, take-all, length-slice}
 use borrow.Author.Tests.{eqb-true, eqb-false, ne-eqb, ltb-true, ltb-false}
-use Rattle.lists.specs.Lists.{upFrom}
+use Rattle.lists.specs.Lists.{roundedUp, upFrom}
 use Rattle.lists.proofs.Tests.{by-test}
 use Rattle.lists.proofs.FlatMap.{flatMap-append}
 use Rattle.lists.proofs.Parts.{slice-append}
@@ -20,7 +20,7 @@ unfolding pageCount
 count-none = refl
 
 pub count-some : (n : ℕ) → (n ≡ 0 → ⊥) → pageCount n ≡ (n + (pageKeys - 1)) / pageKeys
-unfolding pageCount
+unfolding pageCount roundedUp
 count-some n h = rw (ne-eqb n 0 h)
 
 -- the keys of the pages before the last are there, and those of all pages are all

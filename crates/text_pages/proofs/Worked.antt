@@ -2,6 +2,7 @@
 use mathlib.Core.List.{[], _∷_, map, flatMap}
 use mathlib.Core.Path.{_≡_, refl}
 use Prim.Native.Nat.{ℕ}
+use Rattle.lists.specs.Lists.{roundedUp}
 use Rattle.treap.specs.Treap.{top, treap, outranksRest}
 use Rattle.treap.specs.Levels.{nextLevel, rank, count, leader}
 use Rattle.paris_points.specs.Points.{corrected, rounded, halfPoints, rest, sizeOf}
@@ -13,13 +14,13 @@ use Rattle.text_pages.specs.Pages.{lineOf, pageOf, pageCount, pagesOf}
 use Rattle.text_pages.specs.Claims.{single}
 
 pub counts-worked : map pageCount (0 ∷ 1 ∷ 49 ∷ 50 ∷ 51 ∷ 100 ∷ 101 ∷ 4096 ∷ []) ≡ 1 ∷ 1 ∷ 1 ∷ 1 ∷ 2 ∷ 2 ∷ 3 ∷ 82 ∷ []
-unfolding pageCount
+unfolding pageCount roundedUp
 counts-worked = refl
 
 pub empty-worked : (order : ℕ) → pagesOf (record { order = order; entries = [] }) ≡ ascii "PAGE 0001\n"
-unfolding pagesOf pageCount pageOf headingLine flatMap
+unfolding pagesOf pageCount roundedUp pageOf headingLine flatMap
 empty-worked order = refl
 
 pub page-worked : pagesOf single ≡ ascii "PAGE 0001\n0000000000000005    0    1 0000000000000000 40.0\n"
-unfolding pagesOf pageCount pageOf lineOf headingLine pageLine pointsText rightAligned decimal hexadecimal sizeOf corrected halfPoints rounded rest top treap outranksRest rank count leader nextLevel flatMap
+unfolding pagesOf pageCount roundedUp pageOf lineOf headingLine pageLine pointsText rightAligned decimal hexadecimal sizeOf corrected halfPoints rounded rest top treap outranksRest rank count leader nextLevel flatMap
 page-worked = refl

@@ -1,11 +1,11 @@
 -- The printed pages of an order and a set (document 02, N6). Assumes nothing.
 use mathlib.Core.Bool.{cond}
 use mathlib.Core.List.{List, _++_, flatMap}
-use Prim.Native.Nat.{ℕ, suc, _+_, _-_, _*_, _/_}
+use Prim.Native.Nat.{ℕ, suc, _+_, _*_}
 use lib.Dec.{eqb}
 use lib.ListN.{length}
 use lib.Seq.{slice}
-use Rattle.lists.specs.Lists.{upFrom}
+use Rattle.lists.specs.Lists.{roundedUp, upFrom}
 use Rattle.priority.specs.Priority.{priorityOf}
 use Rattle.treap.specs.Levels.{rank, count, leader}
 use Rattle.table.specs.Contents.{Contents, keysIn, measureIn}
@@ -34,7 +34,7 @@ pageOf c before = headingLine (suc before) ++ flatMap (lineOf c) (keysOn before 
 
 -- "The last page may have fewer, but has at least one": a fiftieth of the keys, rounded up. "Only an empty library is one page with no key lines."
 unfoldable pub pageCount : ℕ → ℕ
-pageCount n = cond (eqb n 0) 1 ((n + (pageKeys - 1)) / pageKeys)
+pageCount n = cond (eqb n 0) 1 (roundedUp n pageKeys)
 
 -- All pages.
 unfoldable pub pagesOf : Contents → List ℕ

@@ -17,7 +17,7 @@ use Rattle.treap.specs.Treap.{Tree, keys, rootKey, subtree, path, treap}
 use Rattle.treap.specs.Treap.Tree.{leaf, node}
 use Rattle.treap.specs.Levels.{rank, leader}
 use Rattle.treap_structure.proofs.Shape.{keys-root, Good, lesser-below, greater-above, treap-good}
-use Rattle.treap_structure.proofs.Subtrees.{inside, subtree-root, subtree-left, subtree-right, path-root, path-left, path-right, member-left, member-right}
+use Rattle.treap_structure.proofs.Subtrees.{inside, root-subtree, subtree-root, subtree-left, subtree-right, path-root, path-left, path-right, member-left, member-right}
 use Rattle.treap_structure.proofs.Within.{subtree-of-key}
 use Rattle.treap_structure.proofs.Ranks.{rank-falls, root-rank-highest}
 use Rattle.treap_structure.proofs.Paths.{above, path-in-tree, path-below}
@@ -116,10 +116,6 @@ module _ (α : ℕ) (p : ℕ → ℕ) (wide : 2 ≤ α) (ks : List ℕ) (rising 
       go leaf i = absurd (true-or-false false i refl)
       go (node l k r) i = keys-root l k r
 
-  whole : (t : Tree) → subtree (rootKey t) t ≡ t
-  whole leaf = refl
-  whole (node l k r) = subtree-root l k r
-
   -- a leader lies in the subtree of every key above that has a higher rank than the led one
   pub leader-under : (c x : ℕ) → member c ks ≡ true → member x ks ≡ true → rank α p ks x < rank α p ks c → member x (keys (subtree c (treap p ks))) ≡ true
       → member (leader α p ks x) (keys (subtree c (treap p ks))) ≡ true
@@ -133,7 +129,7 @@ module _ (α : ℕ) (p : ℕ → ℕ) (wide : 2 ≤ α) (ks : List ℕ) (rising 
       let o = root-key x m in
       let deep =
       deepest (rank α p ks x) (rootKey t) x o (root-rank-highest α p wide ks rising x m d o)
-      (ap (λ z. member x (keys z)) (whole t) ∙ member-treap α p wide ks rising x m)
+      (ap (λ z. member x (keys z)) (root-subtree t) ∙ member-treap α p wide ks rising x m)
       in
       subst (λ (z : ℕ). Leads z x) (sym (leader-by-rank α p wide ks rising x m))
       record {

@@ -1,25 +1,25 @@
 -- Every key is in exactly one block, and every block holds keys: blocks partition the keys. The block of a key is named
 -- by its leader and the level above its rank, the root's by the root. Assumes an order of at least 2 and rising keys.
 use mathlib.Core.Bool.{Bool, true, false, cond, _||_, _&&_, and-true}
-use mathlib.Core.List.{List, [], _∷_, _++_, map, flatMap}
-use mathlib.Core.Logic.{_⊎_, _≢_, inl, inr, ⊎-elim}
+use mathlib.Core.List.{List, [], _∷_, map, flatMap}
+use mathlib.Core.Logic.{_≢_}
 use mathlib.Core.Path.{_≡_, refl, sym, ap, ap₂, _∙_, subst}
-use Prim.Native.Nat.{ℕ, zero, suc, pred, _+_, _<_, _≤_}
+use Prim.Native.Nat.{ℕ, suc, pred, _<_, _≤_}
 use native.Mathlib.Omega.{arith}
 use lib.Dec.{eqb, ltb}
 use lib.ListN.{length}
 use borrow.Author.Tests.{ltb-true, ltb-false, lt-ltb, eqb-true, eqb-false, eq-eqb, ne-eqb}
 use Rattle.lists.specs.Lists.{consIf, keep, member, All, Rising, fallingFrom}
-use Rattle.lists.proofs.Tests.{by-test, true-or-false, same-test, or-true-cases, or-true-left, or-true-right, and-left, and-right, and-both, and-false-right}
-use Rattle.lists.proofs.Keep.{all-map, all-mapped, all-always, all-both, all-keep, kept-pass, keep-none, keep-same, keep-after, length-keep}
-use Rattle.lists.proofs.Membership.{eqb-same, all-member, all-of-members, member-keep}
+use Rattle.lists.proofs.Tests.{by-test, true-or-false, and-both, and-false-right}
+use Rattle.lists.proofs.Keep.{all-map, all-mapped, all-always, all-both, all-keep, kept-pass, keep-none, keep-after}
+use Rattle.lists.proofs.Membership.{eqb-same, all-of-members, member-keep}
 use Rattle.lists.proofs.Pairwise.{pairwise-keep}
 use Rattle.lists.proofs.FlatMap.{all-flatMap, keep-flatMap, flatMap-same, falling-within, flatMap-none, flatMap-one, keep-one}
 use Rattle.treap.specs.Treap.{Tree, keys, rootKey, top, treap}
 use Rattle.treap.specs.Treap.Tree.{leaf, node}
 use Rattle.treap.specs.Levels.{rank, leader}
 use Rattle.treap.specs.Blocks.{Block, rootRank, rootBlock, block, blocksOfLevel, blocks, holding, isRootBlock}
-use Rattle.treap_structure.proofs.Shape.{keys-root, Good, top-of-good, top-member, treap-keys, treap-good}
+use Rattle.treap_structure.proofs.Shape.{Good, top-of-good, top-member, treap-keys, treap-good}
 use Rattle.treap_structure.proofs.Ranks.{root-rank-highest}
 use Rattle.treap_structure.proofs.Ancestors.{Leads, leader-leads, root-key}
 
@@ -144,7 +144,7 @@ module _ (α : ℕ) (p : ℕ → ℕ) (ks : List ℕ) where
         (d, level-of-other x d ∙ e)
 
     -- ---- the blocks of a level that hold a key
-    holding-level : (x i : ℕ) → member x ks ≡ true → 1 ≤ i → i < rootRank α p ks
+    pub holding-level : (x i : ℕ) → member x ks ≡ true → 1 ≤ i → i < rootRank α p ks
         → keep (λ b. member x (b .held)) (blocksOfLevel α p ks i) ≡ cond (eqb (blockLevel x) i) (block α p ks i (leader α p ks x) ∷ []) []
     unfolding blocksOfLevel
     holding-level x i m l h =

@@ -20,11 +20,6 @@ use Rattle.treap_structure.proofs.Subtrees.{subtree-root, subtree-left,
 use Rattle.treap_structure.proofs.Paths.{left-member, right-member, subtree-below}
 
 -- ---- any tree
--- a tree is the subtree of its root
-pub root-subtree : (t : Tree) → subtree (rootKey t) t ≡ t
-root-subtree leaf = refl
-root-subtree (node l k r) = subtree-root l k r
-
 -- zero, no key, has no subtree
 pub zero-subtree : (t : Tree) → All (λ k. 1 ≤ k) (keys t) → subtree 0 t ≡ leaf
 zero-subtree leaf h = refl

@@ -1,17 +1,16 @@
 -- The rank and count of a subtree's root, folded from those of its children, and the root's own rule. What they say of
 -- pruning: a subtree outlasts exactly as many prunings as its rank, and its count is what the last leaves.
 -- Assumes an order of at least 2 where it says so.
-use mathlib.Core.Bool.{Bool, true, false, cond, _||_, _&&_}
-use mathlib.Core.List.{List, [], _∷_, _++_}
+use mathlib.Core.Bool.{cond}
 use mathlib.Core.Logic.{_⊎_, _≢_, inl, inr, ⊎-elim}
 use mathlib.Core.Path.{_≡_, refl, sym, ap, ap₂, _∙_, subst}
 use Prim.Native.Nat.{ℕ, zero, suc, max, _+_, _-_, _<_, _≤_}
 use native.Mathlib.Nat.{zero-add, suc-add, sub-add-cancel}
 use native.Mathlib.Omega.{arith}
 use lib.Dec.{eqb, ltb, leb}
-use borrow.Author.Tests.{leb-true, leb-false, lt-leb, le-leb, ltb-true, ltb-false, le-ltb, lt-ltb, eqb-true, eqb-false, eq-eqb, ne-eqb}
+use borrow.Author.Tests.{leb-true, leb-false, ltb-false, lt-ltb, eqb-true, eqb-false, eq-eqb}
 use Rattle.lists.proofs.Tests.{by-test}
-use Rattle.treap.specs.Treap.{Tree, keys, subtree}
+use Rattle.treap.specs.Treap.{Tree, subtree}
 use Rattle.treap.specs.Treap.Tree.{leaf, node}
 use Rattle.treap_structure.proofs.Shape.{size}
 use Rattle.treap_structure.proofs.Subtrees.{subtree-cases}
@@ -28,6 +27,19 @@ nobody = record { rank = 0; count = 0 }
 -- The count of a child if it has the given rank, else nothing.
 abbrev pub countAt : ℕ → Standing → ℕ
 countAt m a = cond (eqb (a .rank) m) (a .count) 0
+
+pub counted : (a : Standing) (m : ℕ) → m ≡ a .rank → countAt m a ≡ a .count
+counted a m e = rw (eq-eqb (a .rank) m (sym e))
+
+pub counted-at-most : (a : Standing) (m : ℕ) → countAt m a ≤ a .count
+counted-at-most a m = by-test (eqb (a .rank) m) (λ e. rw e (omega arith)) (λ e. rw e (omega arith))
+
+pub nobody-counted : (m : ℕ) → countAt m nobody ≡ 0
+nobody-counted m = by-test (eqb 0 m) (λ e. rw e refl) (λ e. rw e refl)
+
+-- the larger of two is one of them
+pub larger : (x y : ℕ) → (max x y ≡ x) ⊎ (max x y ≡ y)
+larger x y = by-test (leb x y) (λ e. let h = leb-true x y e in inr (omega arith)) (λ e. let h = leb-false x y e in inl (omega arith))
 
 module _ (α : ℕ) where
   -- The fold: with m the larger of the children's ranks and c one more than the counts of the children of that rank,
@@ -47,6 +59,10 @@ module _ (α : ℕ) where
   abbrev pub rootStanding : Tree → Standing
   rootStanding leaf = nobody
   rootStanding (node l k r) = record { rank = cond (ltb 0 (size l + size r)) (suc (max (standing l .rank) (standing r .rank))) 0; count = 1 }
+
+  pub none-stands : (t : Tree) → size t ≡ 0 → standing t ≡ nobody
+  none-stands leaf e = refl
+  none-stands (node l k r) e = absurd (omega arith)
 
   -- ---- pruning a node: its children pruned, until nothing is left
   unfoldable pub Over : ℕ → Tree → Tree → ℕ → Tree → Type 0
@@ -128,13 +144,6 @@ module _ (α : ℕ) where
       let l = s .lasts in
       let b = s .below in
       rw e (omega (arith, pruned-le t (suc (a .rank)) m (omega arith), small (pruned α (a .rank) t) (omega arith))))
-
-  -- some child has the larger rank
-  larger : (x y : ℕ) → (max x y ≡ x) ⊎ (max x y ≡ y)
-  larger x y = by-test (leb x y) (λ e. let h = leb-true x y e in inr (omega arith)) (λ e. let h = leb-false x y e in inl (omega arith))
-
-  counted : (a : Standing) (m : ℕ) → m ≡ a .rank → countAt m a ≡ a .count
-  counted a m e = rw (eq-eqb (a .rank) m (sym e))
 
   node-or-leaf : (l : Tree) (k : ℕ) (r : Tree) → node l k r ≡ leaf → ⊥
   node-or-leaf l k r e = let q : size (node l k r) ≡ 0 = ap size e in omega arith
@@ -228,6 +237,14 @@ module _ (α : ℕ) where
   root-rank-size (node l k r) =
       by-test (ltb 0 (size l + size r))
       (λ e. rw e (omega (arith, standing-rank-size l, standing-rank-size r)))
+      (λ e. rw e (omega arith))
+
+  -- the root's own rule gives at most one rank more than the fold
+  pub root-rank-over : (t : Tree) → rootStanding t .rank ≤ suc (standing t .rank)
+  root-rank-over leaf = omega arith
+  root-rank-over (node l k r) =
+      by-test (ltb 0 (size l + size r))
+      (λ e. rw e (omega (arith, raise-rank-low (standing l) (standing r))))
       (λ e. rw e (omega arith))
 
   -- ---- ranks fall from a tree to its subtrees, and strictly from the root

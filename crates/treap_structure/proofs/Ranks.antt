@@ -19,7 +19,7 @@ use Rattle.lists.proofs.Membership.{eqb-same, all-member, all-of-members, membe
 use Rattle.treap.specs.Treap.{Tree, keys, rootKey, subtree, treap}
 use Rattle.treap.specs.Treap.Tree.{leaf, node}
 use Rattle.treap.specs.Levels.{level, rank, count}
-use Rattle.treap_structure.proofs.Shape.{size, length-keys, keys-root, Good, good-rising, lesser-below, greater-above, treap-keys, treap-good}
+use Rattle.treap_structure.proofs.Shape.{size, length-keys, keys-root, Good, good-rising, lesser-below, greater-above, treap-keys, treap-good, treap-size}
 use Rattle.treap_structure.proofs.Subtrees.{inside, some-key, subtree-root, subtree-left, subtree-right, subtree-cases, size-subtree, all-subtree, member-left, member-right}
 use Rattle.treap_structure.proofs.Prune.{pruned, good-pruned, lead, levelTree, all-led, level-is-led}
 use Rattle.treap_structure.proofs.Fold.{Standing, standing, rootStanding, raise, Over, pruned-leaf, pruned-over, levelTree-over, Stands, standing-stands, outlasts, pruned-away, standing-rank-size, root-rank-size, subtree-rank, root-rank-left, root-rank-right}
@@ -99,19 +99,15 @@ module _ (α : ℕ) where
           by-test (leb i (standing α l .rank))
           (λ f. ⊎-elim (λ (z : 0 < size l). omega (arith, outlasts α wide l i z (leb-true i (standing α l .rank) f))) (λ (z : size l ≡ 0). omega (arith, outlasts α wide r i (omega arith) (low z f))) (or-none (size l)))
           (λ f. let d = leb-false i (standing α l .rank) f in
-          ⊎-elim (λ (z : 0 < size r). omega (arith, outlasts α wide r i z (omega arith))) (λ (z : size r ≡ 0). absurd (omega (arith, rank-of-none r z))) (or-none (size r))))
+          ⊎-elim (λ (z : 0 < size r). omega (arith, outlasts α wide r i z (omega arith))) (λ (z : size r ≡ 0). absurd (omega (arith, standing-rank-size α r))) (or-none (size r))))
           (λ e. let m : suc i ≤ 0 = rw e at h in absurd (omega arith))
         where
           or-none : (n : ℕ) → (0 < n) ⊎ (n ≡ 0)
           or-none zero = inr refl
           or-none (suc n) = inl (omega arith)
 
-          rank-of-none : (t : Tree) → size t ≡ 0 → standing α t .rank ≡ 0
-          rank-of-none leaf z = refl
-          rank-of-none (node a x b) z = absurd (omega arith)
-
           low : size l ≡ 0 → leb i (standing α l .rank) ≡ true → i ≤ standing α r .rank
-          low z f = omega (arith, rank-of-none l z, leb-true i (standing α l .rank) f)
+          low z f = omega (arith, standing-rank-size α l, leb-true i (standing α l .rank) f)
 
       -- once it is reached none is
       children-gone : (size (pruned α top-rank l) ≡ 0) × (size (pruned α top-rank r) ≡ 0)
@@ -270,7 +266,7 @@ module _ (α : ℕ) where
           largest-is (λ i. member v (level α p ks i)) (length ks) n
           (λ i h. level-by-standing v i m ∙ le-leb i n h)
           (λ i h. level-by-standing v i m ∙ lt-leb i n h)
-          (omega (arith, in-tree-rank-size (treap p ks) v, length-keys (treap p ks), ap length (treap-keys p ks rising)))
+          (omega (arith, in-tree-rank-size (treap p ks) v, treap-size p ks rising))
 
       -- v is in Li exactly for i up to rank(v): the bound of the search for the rank is harmless
       pub in-level-to-rank : (v i : ℕ) → member v ks ≡ true → member v (level α p ks i) ≡ leb i (rank α p ks v)

@@ -205,3 +205,6 @@ module _ (p : ℕ → ℕ) where
   pub treap-good : (ks : List ℕ) → Rising ks → Good (treap p ks)
   unfolding treap
   treap-good ks s = treapTo-good (length ks) ks (omega arith) s .1
+
+  pub treap-size : (ks : List ℕ) → Rising ks → size (treap p ks) ≡ length ks
+  treap-size ks s = sym (length-keys (treap p ks)) ∙ ap length (treap-keys ks s)

@@ -11,7 +11,7 @@ use Rattle.lists.specs.Lists.{member, All}
 use Rattle.lists.proofs.Tests.{by-test, true-or-false}
 use Rattle.lists.proofs.Keep.{all-map, all-append-left, all-append-right}
 use Rattle.lists.proofs.Membership.{eqb-same, all-member, all-of-members, member-append, not-member}
-use Rattle.treap.specs.Treap.{Tree, keys, subtree, path}
+use Rattle.treap.specs.Treap.{Tree, keys, rootKey, subtree, path}
 use Rattle.treap.specs.Treap.Tree.{leaf, node}
 use Rattle.treap_structure.proofs.Shape.{size, Good}
 
@@ -33,6 +33,11 @@ module _ (l : Tree) (k : ℕ) (r : Tree) where
 
   pub path-right : (v : ℕ) → k < v → path v (node l k r) ≡ k ∷ path v r
   path-right v h = rw (ne-eqb v k (λ e. omega arith), le-ltb v k (omega arith))
+
+-- a tree is the subtree of its root
+pub root-subtree : (t : Tree) → subtree (rootKey t) t ≡ t
+root-subtree leaf = refl
+root-subtree (node l k r) = subtree-root l k r
 
 -- what holds of a tree's subtree holds of one of three
 pub subtree-cases : (P : Tree → Type 0) (v : ℕ) (l : Tree) (k : ℕ) (r : Tree) → P (node l k r) → P (subtree v l) → P (subtree v r) → P (subtree v (node l k r))
