@@ -18,7 +18,7 @@ use Rattle.lists.proofs.UpFrom.{upFrom-length, upFrom-within, upFrom-rising}
 use Rattle.treap.specs.Blocks.{rootRank, blocks, blocksMet}
 use Rattle.treap_ceilings.specs.Ceiling.{rankCeiling, blocksCeiling}
 use Rattle.treap_ceilings.specs.Claims.{Chain, WorstKeys, Ceilings, TreapCeilings}
-use Rattle.treap_ceilings.proofs.Worked.{four-worked, seven-worked, most-worked}
+use Rattle.treap_ceilings.proofs.Worked.{d-worked, e-worked, most-worked}
 use Rattle.treap_ceilings.proofs.RootRank.{root-below-ceiling, root-rank-some}
 use Rattle.treap_ceilings.proofs.LevelsMet.{met-at-most}
 use Rattle.treap_ceilings.proofs.Unbranched.{Falls, Climbs, chain-reaches}
@@ -82,7 +82,7 @@ ceilings-hold =
       every-order = ceilings;
       enough = rounded-enough;
       least = rounded-least;
-      chain-of-four = four-worked;
-      seven = seven-worked;
+      example-d = d-worked;
+      example-e = e-worked;
       worked = most-worked;
     }

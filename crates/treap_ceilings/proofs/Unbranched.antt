@@ -1,7 +1,8 @@
--- The treap of a chain has no branches, and the search for its deepest key meets every block: so it reaches the ceilings. Assumes an order of at least 2 and rising keys.
+-- The treap of a chain has no branches, and the search for its deepest key meets every block: so it reaches the ceilings. Assumes an order of
+-- at least 2 and rising keys.
 use mathlib.Core.Bool.{true}
 use mathlib.Core.List.{List, [], _∷_, _++_}
-use mathlib.Core.Logic.{inl, inr, ⊎-elim}
+use mathlib.Core.Logic.{_⊎_, inl, inr, ⊎-elim}
 use mathlib.Core.Path.{_≡_, refl, sym, ap, _∙_, subst}
 use Prim.Native.Nat.{ℕ, max, _<_, _≤_}
 use native.Mathlib.Omega.{arith}
@@ -44,20 +45,22 @@ module _ (p : ℕ → ℕ) where
   neither k [] a b = refl
   neither k (x ∷ xs) a b = absurd (outranks-one-way p x k (a .0) (b .0))
 
-  narrow-falling : (t : Tree) → Good p t → Pairwise Falls (keys t) → Narrow t
-  narrow-falling leaf g h = tt
-  narrow-falling (node l k r) g h = (
-    inl (sym (length-keys l) ∙ neither k (keys l) (pairwise-before Falls (keys l) k (keys r) h) (all-map (Lesser p k) (Falls k) (λ x q. q .1) (keys l) (g .0))),
-    narrow-falling l (g .2) (pairwise-append-left Falls (keys l) (k ∷ keys r) h),
-    narrow-falling r (g .3) (pairwise-append-right Falls (keys l) (k ∷ keys r) h .1),
-  )
+  falling-side : (l : Tree) (k : ℕ) (r : Tree) → Good p (node l k r) → Pairwise Falls (keys (node l k r)) → size l ≡ 0
+  falling-side l k r g h =
+      sym (length-keys l) ∙ neither k (keys l) (pairwise-before Falls (keys l) k (keys r) h) (all-map (Lesser p k) (Falls k) (λ x q. q .1) (keys l) (g .0))
 
-  narrow-climbing : (t : Tree) → Good p t → Pairwise Climbs (keys t) → Narrow t
-  narrow-climbing leaf g h = tt
-  narrow-climbing (node l k r) g h = (
-    inr (sym (length-keys r) ∙ neither k (keys r) (pairwise-append-right Climbs (keys l) (k ∷ keys r) h .0) (all-map (Greater p k) (Falls k) (λ x q. q .1) (keys r) (g .1))),
-    narrow-climbing l (g .2) (pairwise-append-left Climbs (keys l) (k ∷ keys r) h),
-    narrow-climbing r (g .3) (pairwise-append-right Climbs (keys l) (k ∷ keys r) h .1),
+  climbing-side : (l : Tree) (k : ℕ) (r : Tree) → Good p (node l k r) → Pairwise Climbs (keys (node l k r)) → size r ≡ 0
+  climbing-side l k r g h =
+      sym (length-keys r) ∙ neither k (keys r) (pairwise-append-right Climbs (keys l) (k ∷ keys r) h .0) (all-map (Greater p k) (Falls k) (λ x q. q .1) (keys r) (g .1))
+
+  -- where each key has a side without keys no key has two children
+  narrow-by : (R : ℕ → ℕ → Type 0) → ((l : Tree) (k : ℕ) (r : Tree) → Good p (node l k r) → Pairwise R (keys (node l k r)) → (size l ≡ 0) ⊎ (size r ≡ 0))
+      → (t : Tree) → Good p t → Pairwise R (keys t) → Narrow t
+  narrow-by R side leaf g h = tt
+  narrow-by R side (node l k r) g h = (
+    side l k r g h,
+    narrow-by R side l (g .2) (pairwise-append-left R (keys l) (k ∷ keys r) h),
+    narrow-by R side r (g .3) (pairwise-append-right R (keys l) (k ∷ keys r) h .1),
   )
 
   chain-narrow : (ks : List ℕ) → Rising ks → Chain p ks → Narrow (treap p ks)
@@ -65,8 +68,8 @@ module _ (p : ℕ → ℕ) where
       let good = treap-good p ks rising in
       let order = sym (treap-keys p ks rising) in
       ⊎-elim
-      (λ h. narrow-falling (treap p ks) good (subst (Pairwise Falls) order h))
-      (λ h. narrow-climbing (treap p ks) good (subst (Pairwise Climbs) order h))
+      (λ h. narrow-by Falls (λ l k r g q. inl (falling-side l k r g q)) (treap p ks) good (subst (Pairwise Falls) order h))
+      (λ h. narrow-by Climbs (λ l k r g q. inr (climbing-side l k r g q)) (treap p ks) good (subst (Pairwise Climbs) order h))
       chain
 
   -- ---- the deepest key, on whose search path are all keys

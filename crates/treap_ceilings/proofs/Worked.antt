@@ -8,13 +8,13 @@ use Rattle.treap.specs.Blocks.{rootRank}
 use Rattle.treap.specs.Examples.{written}
 use Rattle.treap_ceilings.specs.Ceiling.{rankCeiling}
 
-pub four-worked : rootRank 3 (written (1 ∷ 2 ∷ 3 ∷ 4 ∷ [])) (1 ∷ 2 ∷ 3 ∷ 4 ∷ []) ≡ rankCeiling 3 4
+pub d-worked : rootRank 3 (written (1 ∷ 2 ∷ 3 ∷ 4 ∷ [])) (1 ∷ 2 ∷ 3 ∷ 4 ∷ []) ≡ rankCeiling 3 4
 unfolding outranks outranksRest top treap nextLevel rank rootRank rankCeiling roundedUp
-four-worked = refl
+d-worked = refl
 
-pub seven-worked : rootRank 3 (written (2 ∷ 3 ∷ 4 ∷ 5 ∷ 6 ∷ 7 ∷ 1 ∷ [])) (1 ∷ 2 ∷ 3 ∷ 4 ∷ 5 ∷ 6 ∷ 7 ∷ []) ≡ rankCeiling 3 7
+pub e-worked : rootRank 3 (written (2 ∷ 3 ∷ 4 ∷ 5 ∷ 6 ∷ 7 ∷ 1 ∷ [])) (1 ∷ 2 ∷ 3 ∷ 4 ∷ 5 ∷ 6 ∷ 7 ∷ []) ≡ rankCeiling 3 7
 unfolding outranks outranksRest top treap nextLevel rank rootRank rankCeiling roundedUp
-seven-worked = refl
+e-worked = refl
 
 pub most-worked : map (λ α. rankCeiling α 4096) (3 ∷ 16 ∷ 64 ∷ 255 ∷ []) ≡ 2048 ∷ 273 ∷ 65 ∷ 17 ∷ []
 unfolding rankCeiling roundedUp

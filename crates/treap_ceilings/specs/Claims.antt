@@ -56,7 +56,7 @@ pub record TreapCeilings : Type 0 where
   pub enough : (a b : ℕ) → 1 ≤ b → a ≤ roundedUp a b * b
   pub least : (a b : ℕ) → 1 ≤ b → (c : ℕ) → a ≤ c * b → roundedUp a b ≤ c
   -- document 01's examples D, "1 to 4, priorities falling", and E, "2 first, then 3, 4, 5, 6, 7, then 1": their root's ranks, 2 and 3
-  pub chain-of-four : rootRank 3 (written (1 ∷ 2 ∷ 3 ∷ 4 ∷ [])) (1 ∷ 2 ∷ 3 ∷ 4 ∷ []) ≡ rankCeiling 3 4
-  pub seven : rootRank 3 (written (2 ∷ 3 ∷ 4 ∷ 5 ∷ 6 ∷ 7 ∷ 1 ∷ [])) (1 ∷ 2 ∷ 3 ∷ 4 ∷ 5 ∷ 6 ∷ 7 ∷ []) ≡ rankCeiling 3 7
+  pub example-d : rootRank 3 (written (1 ∷ 2 ∷ 3 ∷ 4 ∷ [])) (1 ∷ 2 ∷ 3 ∷ 4 ∷ []) ≡ rankCeiling 3 4
+  pub example-e : rootRank 3 (written (2 ∷ 3 ∷ 4 ∷ 5 ∷ 6 ∷ 7 ∷ 1 ∷ [])) (1 ∷ 2 ∷ 3 ∷ 4 ∷ 5 ∷ 6 ∷ 7 ∷ []) ≡ rankCeiling 3 7
   -- the ceilings of 4,096 keys, of orders 3, 16, 64 and 255
   pub worked : map (λ α. rankCeiling α 4096) (3 ∷ 16 ∷ 64 ∷ 255 ∷ []) ≡ 2048 ∷ 273 ∷ 65 ∷ 17 ∷ []
