@@ -1,24 +1,24 @@
 -- The keys in the image's order: by falling level of their block, rising leader in its name, rising key. What the blocks hold, one
 -- after the other, is the keys so sorted, and the blocks are its runs. Assumes an order of at least 2 and rising keys.
 use mathlib.Core.Bool.{Bool, true, false, cond, _&&_}
-use mathlib.Core.List.{List, [], _∷_, map, flatMap, Permᴰ·symm}
+use mathlib.Core.List.{List, map, flatMap, Permᴰ·symm}
 use mathlib.Core.Path.{_≡_, refl, sym, ap, _∙_}
 use Prim.Native.Nat.{ℕ, suc, pred, _<_, _≤_}
 use native.Mathlib.Omega.{arith}
 use lib.Dec.{eqb, ltb}
 use lib.ListN.{length}
 use borrow.Author.Tests.{eqb-true, eqb-false, eq-eqb, ne-eqb}
-use Rattle.lists.specs.Lists.{keep, member, All, Pairwise, Rising, sortBy, fallingFrom, runs}
-use Rattle.lists.proofs.Tests.{by-test, or-true-left, or-true-right, and-left, and-right}
+use Rattle.lists.specs.Lists.{member, All, Pairwise, Rising, sortBy, fallingFrom}
+use Rattle.lists.proofs.Tests.{by-test, and-left, and-right}
 use Rattle.lists.proofs.Keep.{all-map, all-mapped, all-always, all-both, all-keep}
-use Rattle.lists.proofs.Membership.{all-member, all-of-members, member-append}
+use Rattle.lists.proofs.Membership.{all-member, all-of-members}
 use Rattle.lists.proofs.Pairwise.{pairwise-map, pairwise-mapped, pairwise-keep, pairwise-unique}
 use Rattle.lists.proofs.FlatMap.{all-flatMap, pairwise-flatMap, AllRelated, falling-within, falling-falls, length-flatMap-some}
 use Rattle.lists.proofs.Sorting.{Before, all-permuted, length-permuted, sortBy-permutes, sortBy-ordered}
 use Rattle.treap.specs.Treap.{top}
 use Rattle.treap.specs.Levels.{rank, leader}
-use Rattle.treap.specs.Blocks.{Block, rootRank, rootBlock, block, blocksOfLevel, blocks, holding}
-use Rattle.treap_structure.proofs.Blocks.{blockLevel, held-by-root, held-by-block, level-of-root, level-of-other, level-under, Formed, blocks-formed, Holds, blocks-hold, holding-is}
+use Rattle.treap.specs.Blocks.{Block, rootRank, rootBlock, block, blocksOfLevel, blocks}
+use Rattle.treap_structure.proofs.Blocks.{blockLevel, held-by-root, held-by-block, level-of-root, level-of-other, level-under, Formed, blocks-formed, Holds, blocks-hold, every-key-held}
 use Rattle.treap_structure.proofs.Blocks.Formed.{at-root, below}
 use Rattle.treap_structure.proofs.BlockSizes.{led-by-top}
 use Rattle.lists.proofs.Precedence.{precedes, agree, precedes-when, precedes-trans, precedes-one-way, precedes-total}
@@ -151,19 +151,6 @@ module _ (α : ℕ) (p : ℕ → ℕ) (wide : 2 ≤ α) (ks : List ℕ) (rising 
       (blocks α p ks) blocks-named blocks-ordered
 
   -- ---- and it is the keys, no more and no fewer
-  in-block : (x : ℕ) (bs : List Block) → 0 < length (keep (λ b. member x (b .held)) bs) → member x (flatMap (λ b. b .held) bs) ≡ true
-  unfolding flatMap
-  in-block x [] h = absurd (omega arith)
-  in-block x (b ∷ bs) h =
-      member-append x (b .held) (flatMap (λ c. c .held) bs)
-      ∙ by-test (member x (b .held))
-      (λ e. or-true-left (member x (b .held)) _ e)
-      (λ e. or-true-right (member x (b .held)) _ (in-block x bs (rw e at h)))
-
-  every-key-held : (x : ℕ) → member x ks ≡ true → member x (flatMap (λ b. b .held) (blocks α p ks)) ≡ true
-  unfolding holding
-  every-key-held x m = in-block x (blocks α p ks) (omega (arith, ap length (holding-is α p ks wide rising x m)))
-
   held-are-keys : All (λ x. member x ks ≡ true) (flatMap (λ b. b .held) (blocks α p ks))
   held-are-keys =
       all-flatMap (λ x. member x ks ≡ true) (λ b. b .held) (blocks α p ks)
@@ -190,7 +177,7 @@ module _ (α : ℕ) (p : ℕ → ℕ) (wide : 2 ≤ α) (ks : List ℕ) (rising 
       (all-map (λ x. member x ks ≡ true) (λ x. member x (sortBy (before α p ks) ks) ≡ true)
       (λ x m. all-member (λ y. member y (sortBy (before α p ks) ks) ≡ true) ks x (all-permuted (λ y. member y (sortBy (before α p ks) ks) ≡ true) permuted (all-of-members (λ y. member y (sortBy (before α p ks) ks) ≡ true) (sortBy (before α p ks) ks) (λ y i. i))) m)
       (flatMap (λ b. b .held) (blocks α p ks)) held-are-keys)
-      (all-map (λ x. member x ks ≡ true) (λ x. member x (flatMap (λ b. b .held) (blocks α p ks)) ≡ true) every-key-held (sortBy (before α p ks) ks) (all-permuted (λ x. member x ks ≡ true) (Permᴰ·symm permuted) keys-are-keys))
+      (all-map (λ x. member x ks ≡ true) (λ x. member x (flatMap (λ b. b .held) (blocks α p ks)) ≡ true) (every-key-held α p ks wide rising) (sortBy (before α p ks) ks) (all-permuted (λ x. member x ks ≡ true) (Permᴰ·symm permuted) keys-are-keys))
 
   -- ---- how many keys and blocks
   pub held-total : length (flatMap (λ b. b .held) (blocks α p ks)) ≡ length ks

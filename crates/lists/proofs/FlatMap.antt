@@ -10,8 +10,9 @@ use lib.Dec.{eqb}
 use lib.ListN.{length, length-append}
 use borrow.Author.Tests.{eqb-true, eqb-false, ne-eqb}
 use Rattle.lists.specs.Lists.{keep, All, Pairwise, member, fallingFrom, Rising}
-use Rattle.lists.proofs.Tests.{by-test, true-or-false, or-true-cases}
+use Rattle.lists.proofs.Tests.{by-test, true-or-false, or-true-cases, or-true-left, or-true-right}
 use Rattle.lists.proofs.Keep.{all-map, all-mapped, all-append, keep-append, keep-none}
+use Rattle.lists.proofs.Membership.{member-append}
 
 module _ {A B : Type 0} where
   pub all-flatMap : (P : B → Type 0) (g : A → List B) (xs : List A) → All (λ x. All P (g x)) xs → All P (flatMap g xs)
@@ -56,11 +57,32 @@ module _ {A B : Type 0} (R : B → B → Type 0) (g : A → List B) where
   pairwise-flatMap [] h k = tt
   pairwise-flatMap (a ∷ vs) h k = related-append (g a) (flatMap g vs) (h .0) (pairwise-flatMap vs (h .1) (k .1)) (related-all (g a) vs (k .0))
 
+-- what some part has, the whole has
+pub member-flatMap : {A : Type 0} (x : ℕ) (g : A → List ℕ) (vs : List A) → 0 < length (keep (λ a. member x (g a)) vs) → member x (flatMap g vs) ≡ true
+unfolding flatMap
+member-flatMap x g [] h = absurd (omega arith)
+member-flatMap x g (a ∷ vs) h =
+    member-append x (g a) (flatMap g vs)
+    ∙ by-test (member x (g a))
+    (λ e. or-true-left (member x (g a)) _ e)
+    (λ e. or-true-right (member x (g a)) _ (member-flatMap x g vs (rw e at h)))
+
 -- where no part is empty, there are no more parts than elements in all
 pub length-flatMap-some : {A B : Type 0} (g : A → List B) (vs : List A) → All (λ a. 0 < length (g a)) vs → length vs ≤ length (flatMap g vs)
 unfolding flatMap
 length-flatMap-some g [] h = omega arith
 length-flatMap-some g (a ∷ vs) h = omega (arith, length-flatMap-some g vs (h .1), h .0, length-append (g a) (flatMap g vs))
+
+-- where each part has at most so many, or one more if it passes a test, the whole has at most so many for each part, and one for each that passes
+pub length-flatMap-most : {A B : Type 0} (g : A → List B) (f : A → Bool) (m : ℕ) (vs : List A) → All (λ a. length (g a) ≤ cond (f a) (suc m) m) vs
+    → length (flatMap g vs) ≤ m * length vs + length (keep f vs)
+unfolding flatMap
+length-flatMap-most g f m [] h = omega arith
+length-flatMap-most g f m (a ∷ vs) h =
+    let all = length-append (g a) (flatMap g vs) in
+    let rest = length-flatMap-most g f m vs (h .1) in
+    let times = mul-suc m (length vs) in
+    by-test (f a) (λ e. let here = rw e at (h .0) in rw e (omega arith)) (λ e. let here = rw e at (h .0) in rw e (omega arith))
 
 -- where all parts are equally long
 pub length-flatMap-each : {A B : Type 0} (g : A → List B) (n : ℕ) → ((a : A) → length (g a) ≡ n) → (vs : List A) → length (flatMap g vs) ≡ n * length vs

@@ -24,6 +24,11 @@ pub a-member : (xs : List ℕ) → 1 ≤ length xs → (x : ℕ) × (member x xs
 a-member [] h = absurd (omega arith)
 a-member (x ∷ xs) h = (x, or-true-left (eqb x x) (member x xs) (eqb-same x))
 
+-- a list that has a member is not empty
+pub some-member : (x : ℕ) (xs : List ℕ) → member x xs ≡ true → 0 < length xs
+some-member x [] m = absurd (true-or-false false m refl)
+some-member x (y ∷ ys) m = omega arith
+
 pub all-of-members : (P : ℕ → Type 0) (xs : List ℕ) → ((x : ℕ) → member x xs ≡ true → P x) → All P xs
 all-of-members P [] f = tt
 all-of-members P (y ∷ ys) f =

@@ -1,6 +1,6 @@
 -- Rising lists: the parts below and above an element, that a rising list is determined by its members, the test by
--- neighbours, and how long one between two numbers can be. Assumes nothing.
-use mathlib.Core.Bool.{Bool, true, false, _||_, _&&_}
+-- neighbours, and how long one can be: between two numbers, and with elements of another list alone. Assumes nothing.
+use mathlib.Core.Bool.{true, false, not}
 use mathlib.Core.List.{List, [], _∷_, _++_, append-nil}
 use mathlib.Core.Logic.{⊎-elim}
 use mathlib.Core.Path.{_≡_, refl, sym, ap, ap₂, _∙_, subst}
@@ -11,8 +11,8 @@ use lib.ListN.{length}
 use borrow.Author.Tests.{eqb-true, ne-eqb, ltb-true, lt-ltb, le-ltb}
 use Rattle.lists.specs.Lists.{keep, All, member, Rising, risesB}
 use Rattle.lists.proofs.Tests.{by-test, true-or-false, or-true-cases, and-left, and-right, and-both}
-use Rattle.lists.proofs.Keep.{all-map, all-both, keep-append, keep-all, keep-none}
-use Rattle.lists.proofs.Membership.{all-member}
+use Rattle.lists.proofs.Keep.{all-map, all-both, keep-append, keep-all, keep-none, length-keep-not}
+use Rattle.lists.proofs.Membership.{all-member, some-member, member-keep}
 use Rattle.lists.proofs.Pairwise.{pairwise-join, pairwise-unique}
 
 pub rising-join : (xs : List ℕ) (y : ℕ) (ys : List ℕ) → Rising xs → Rising ys → All (λ x. x < y) xs → All (λ z. y < z) ys → Rising (xs ++ y ∷ ys)
@@ -88,3 +88,19 @@ rising-few low high (k ∷ ks) h rising all =
     (all-both (λ x. k < x) (λ x. x ≤ high) ks (rising .0) (all-map (λ x. (low < x) × (x ≤ high)) (λ x. x ≤ high) (λ x q. q .1) ks (all .1)))
     in
     omega arith
+
+-- a rising list is no longer than a list that has all its elements
+pub rising-covered : (xs ys : List ℕ) → Rising xs → All (λ x. member x ys ≡ true) xs → length xs ≤ length ys
+rising-covered [] ys rising all = omega arith
+rising-covered (x ∷ xs) ys rising all =
+    let above = keep (λ y. ltb x y) ys in
+    let stay : All (λ z. member z above ≡ true) xs =
+    all-map (λ z. (x < z) × (member z ys ≡ true)) (λ z. member z above ≡ true)
+    (λ z h. member-keep (λ y. ltb x y) z ys ∙ and-both (ltb x z) (member z ys) (lt-ltb x z (h .0)) (h .1))
+    xs (all-both (λ z. x < z) (λ z. member z ys ≡ true) xs (rising .0) (all .1))
+    in
+    let gone : 0 < length (keep (λ y. not (ltb x y)) ys) =
+    some-member x (keep (λ y. not (ltb x y)) ys)
+    (member-keep (λ y. not (ltb x y)) x ys ∙ and-both (not (ltb x x)) (member x ys) (ap not (le-ltb x x (omega arith))) (all .0))
+    in
+    omega (arith, rising-covered xs above (rising .1) stay, gone, length-keep-not (λ y. ltb x y) ys)

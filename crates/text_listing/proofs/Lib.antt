@@ -1,5 +1,6 @@
 -- Laws of the listing.
 pub mod Examples
+pub mod Claims
 pub mod Filling
 pub mod Walking
 pub mod RecordFields

@@ -3,11 +3,14 @@
 use mathlib.Core.Bool.{true}
 use mathlib.Core.List.{List, [], _∷_, _++_, flatMap, append-assoc}
 use mathlib.Core.Path.{_≡_, refl, sym, ap, ap₂, _∙_, subst, subst₂}
-use Prim.Native.Nat.{ℕ, suc, _+_, _≤_}
+use Prim.Native.Nat.{ℕ, suc, min, _+_, _≤_}
 use native.Mathlib.Omega.{arith}
+use lib.Dec.{ltb}
 use lib.ListN.{length, drop, length-append}
 use lib.Seq.{drop-at}
+use borrow.Author.Tests.{ltb-false}
 use Rattle.lists.specs.Lists.{All, member}
+use Rattle.lists.proofs.Tests.{by-test}
 use Rattle.lists.proofs.Keep.{all-map, all-both}
 use Rattle.lists.proofs.Membership.{all-member}
 use Rattle.measure.specs.Measure.{storedCorrection}
@@ -173,6 +176,10 @@ module _ (c : Contents) (valid : Valid mostSlots c) where
   unfolding imageOf image
   records-read = header-dropped (c .order) (length (keysIn c)) (length all-blocks) (top priorityOf (keysIn c)) records
 
+  some-block : min 1 (length (keysIn c)) ≤ length all-blocks
+  unfolding blocks
+  some-block = by-test (ltb 0 (length (keysIn c))) (λ e. rw e (omega arith)) (λ e. let none = ltb-false 0 (length (keysIn c)) e in rw e (omega arith))
+
   header-there : headerBytes ≤ length (imageOf c)
   unfolding imageOf image
   header-there =
@@ -199,6 +206,7 @@ module _ (c : Contents) (valid : Valid mostSlots c) where
         order-most = omega (arith, order-read fits, fits .order);
         keys-most = omega (arith, size-read fits, fits .size);
         blocks-most = omega (arith, number-read fits, fits .number);
+        blocks-least = omega (arith, size-read fits, number-read fits, some-block);
         blocks = subst₂ HasBlocks (sym (number-read fits)) (sym records-read) (blocks-there c all-blocks listable);
       }
 

@@ -1,6 +1,6 @@
 -- The lines that the records of an image show, read from its bytes. Assumes nothing.
 use mathlib.Core.List.{List, [], _++_}
-use Prim.Native.Nat.{ℕ, zero, suc, _+_, _≤_, _<_}
+use Prim.Native.Nat.{ℕ, zero, suc, min, _+_, _≤_, _<_}
 use lib.ListN.{length, drop}
 use Rattle.treap.specs.Image.{orderBytes, countBytes, keyBytes}
 use Rattle.treap.specs.Blocks.{fill}
@@ -62,6 +62,7 @@ pub record HasRecords (bytes : List ℕ) : Type 0 where
   pub order-most : fieldAt orderAt orderBytes bytes < 256
   pub keys-most : fieldAt sizeAt countBytes bytes < 65536
   pub blocks-most : fieldAt blocksAt countBytes bytes < 65536
+  pub blocks-least : min 1 (fieldAt sizeAt countBytes bytes) ≤ fieldAt blocksAt countBytes bytes
   pub blocks : HasBlocks (fieldAt blocksAt countBytes bytes) (drop headerBytes bytes)
 
 -- No line is longer than so many times the record that it shows.

@@ -3,7 +3,7 @@ mod lengths;
 
 ghost use mathlib.Core.Path.{_≡_};
 ghost use mathlib.Core.Bool.{true};
-ghost use Prim.Native.Nat.{_+_, _*_, _≤_, _<_};
+ghost use Prim.Native.Nat.{min, _+_, _*_, _≤_, _<_};
 ghost use lib.ListN.{length, drop};
 ghost use Rattle.treap.specs.Blocks.{fill};
 ghost use Rattle.lists.specs.Lists.{overwrite};
@@ -28,15 +28,15 @@ use image::RANK_AT;
 use image::ROOT_AT;
 use image::SIZE_AT;
 
-// How full blocks are in percent, rounded down: so many keys in so many blocks of an order.
+// How full blocks are, in percent of what they can hold, rounded down: so many keys in so many blocks of an order.
 fn fill_of(order: u64, keys: u64, blocks: u64) -> u64
-    requires { ⌜ (1 ≤ order) × (order < 256) × (keys < 65536) × (blocks < 65536) ⌝ }
+    requires { ⌜ (1 ≤ order) × (order < 256) × (keys < 65536) × (blocks < 65536) × (min 1 keys ≤ blocks) ⌝ }
     ensures { λ r. ⌜ r ≡ fill order keys blocks ⌝ }
 {
-    if keys == 0 || blocks == 0 {
+    if keys == 0 {
         return 0;
     }
-    100 * keys / (blocks * (2 * order - 1))
+    100 * keys / (2 * order - 1 + (blocks - 1) * (2 * order - 2))
 }
 
 // Write the line of a node record.

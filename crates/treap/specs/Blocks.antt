@@ -1,7 +1,7 @@
 -- Blocks (document 01, "Blocks"), over any order `α`, priority function `p` and rising keys `ks`. Assumes nothing.
 use mathlib.Core.Bool.{Bool, cond, _||_, _&&_}
 use mathlib.Core.List.{List, [], _∷_, map, flatMap}
-use Prim.Native.Nat.{ℕ, suc, pred, _*_, _-_, _/_}
+use Prim.Native.Nat.{ℕ, suc, pred, _+_, _*_, _-_, _/_}
 use lib.Dec.{eqb, ltb}
 use lib.ListN.{length}
 use Rattle.lists.specs.Lists.{keep, some, member, fallingFrom}
@@ -60,6 +60,10 @@ module _ (α : ℕ) (p : ℕ → ℕ) (ks : List ℕ) where
   unfoldable pub blocksMetByAll : List ℕ → ℕ
   blocksMetByAll vs = length (keep (λ b. some (λ v. meets v b) vs) blocks)
 
--- "Fill is 100·n / (b·(2α−1)) rounded down, for n keys in b blocks; 0 when empty."
+-- "Only the root block can reach 2α−1 keys; any other stops at 2α−2" (02, N8): how many keys b blocks can hold, b from 1 on.
+unfoldable pub room : ℕ → ℕ → ℕ
+room α b = (2 * α - 1) + (b - 1) * (2 * α - 2)
+
+-- "Fill becomes 100·n / ((2α−1) + (b−1)·(2α−2)) rounded down, still 0 when empty" (02, N8), for n keys in b blocks.
 unfoldable pub fill : ℕ → ℕ → ℕ → ℕ
-fill α n b = cond (eqb n 0) 0 (100 * n / (b * (2 * α - 1)))
+fill α n b = cond (eqb n 0) 0 (100 * n / room α b)

@@ -1,5 +1,5 @@
--- Document 01's examples A to H as one table: what is given of each, and what the definitions must make of it. Behind it the image of two keys
--- of which one is measured (document 02, N4). The order is 3 throughout. Assumes nothing.
+-- Document 01's examples A to H as one table: what is given of each, and what the definitions must make of it; fills are by document 02, N8.
+-- Behind it the image of two keys of which one is measured (document 02, N4). The order is 3 throughout. Assumes nothing.
 use mathlib.Core.Bool.{cond, not}
 use mathlib.Core.List.{List, [], _∷_, _++_, map}
 use Prim.Native.Nat.{ℕ, suc}
@@ -178,7 +178,7 @@ chain =
       outcome =
           shaped (2 ∷ 1 ∷ 0 ∷ 0 ∷ []) (1 ∷ 1 ∷ 2 ∷ 1 ∷ []) (0 ∷ 1 ∷ 2 ∷ 2 ∷ [])
           (holds 1 2 (1 ∷ 2 ∷ []) ∷ holds 2 1 (3 ∷ 4 ∷ []) ∷ [])
-          ([] ∷ (named 1 2 ∷ []) ∷ []) 40;
+          ([] ∷ (named 1 2 ∷ []) ∷ []) 44;
     }
 
 -- E. 2 first, then 3, 4, 5, 6, 7, then 1: ranks of 1 to 7 are 0, 3, 2, 1, 1, 0, 0; blocks (2, 3): 2, 3; (3, 2): 4, 5; (2, 1): 1;
@@ -203,7 +203,7 @@ deep =
             leaders = 2 ∷ 0 ∷ 2 ∷ 3 ∷ 3 ∷ 5 ∷ 5 ∷ [];
             blocks = holds 2 3 (2 ∷ 3 ∷ []) ∷ holds 3 2 (4 ∷ 5 ∷ []) ∷ holds 2 1 (1 ∷ []) ∷ holds 5 1 (6 ∷ 7 ∷ []) ∷ [];
             parents = [] ∷ (named 2 3 ∷ []) ∷ (named 2 3 ∷ []) ∷ (named 3 2 ∷ []) ∷ [];
-            fill = 35;
+            fill = 41;
             met = 3 ∷ 3 ∷ 2 ∷ [];
             metByAll = 4;
             before = [];
@@ -223,7 +223,7 @@ five =
           ([] ∷ []) 100;
     }
 
--- G. F with 6 under 5: blocks (3, 2): 3, 4; (3, 1): 1, 2; (4, 1): 5, 6; fill 40.
+-- G. F with 6 under 5: blocks (3, 2): 3, 4; (3, 1): 1, 2; (4, 1): 5, 6. "Example G reads 46" (02, N8).
 abbrev six : Example
 six =
     record {
@@ -231,7 +231,7 @@ six =
       outcome =
           shaped (0 ∷ 0 ∷ 2 ∷ 1 ∷ 0 ∷ 0 ∷ []) (1 ∷ 2 ∷ 1 ∷ 1 ∷ 2 ∷ 1 ∷ []) (3 ∷ 3 ∷ 0 ∷ 3 ∷ 4 ∷ 4 ∷ [])
           (holds 3 2 (3 ∷ 4 ∷ []) ∷ holds 3 1 (1 ∷ 2 ∷ []) ∷ holds 4 1 (5 ∷ 6 ∷ []) ∷ [])
-          ([] ∷ (named 3 2 ∷ []) ∷ (named 3 2 ∷ []) ∷ []) 40;
+          ([] ∷ (named 3 2 ∷ []) ∷ (named 3 2 ∷ []) ∷ []) 46;
     }
 
 -- H. M = 3, two keys with home 2: slots 2 and 0, the outranking one in 2; delete that one and the other moves to slot 2.
@@ -263,8 +263,24 @@ tied =
       outcome = shaped (1 ∷ 0 ∷ []) (1 ∷ 1 ∷ []) (0 ∷ 5 ∷ []) (holds 5 1 (5 ∷ 9 ∷ []) ∷ []) ([] ∷ []) 40;
     }
 
+-- Nor this: root 7; 6 and 8 below it; 3 under 6 and 11 under 8, each of these two with two keys on each side. Every block holds as many keys as
+-- it can.
+abbrev allFull : Example
+allFull =
+    record {
+      given =
+          shape (1 ∷ 2 ∷ 3 ∷ 4 ∷ 5 ∷ 6 ∷ 7 ∷ 8 ∷ 9 ∷ 10 ∷ 11 ∷ 12 ∷ 13 ∷ [])
+          (7 ∷ 6 ∷ 8 ∷ 3 ∷ 11 ∷ 1 ∷ 2 ∷ 4 ∷ 5 ∷ 9 ∷ 10 ∷ 12 ∷ 13 ∷ []);
+      outcome =
+          shaped (0 ∷ 0 ∷ 1 ∷ 0 ∷ 0 ∷ 1 ∷ 2 ∷ 1 ∷ 0 ∷ 0 ∷ 1 ∷ 0 ∷ 0 ∷ [])
+          (2 ∷ 1 ∷ 1 ∷ 2 ∷ 1 ∷ 2 ∷ 1 ∷ 2 ∷ 2 ∷ 1 ∷ 1 ∷ 2 ∷ 1 ∷ [])
+          (3 ∷ 3 ∷ 7 ∷ 3 ∷ 3 ∷ 7 ∷ 0 ∷ 7 ∷ 11 ∷ 11 ∷ 7 ∷ 11 ∷ 11 ∷ [])
+          (holds 7 2 (3 ∷ 6 ∷ 7 ∷ 8 ∷ 11 ∷ []) ∷ holds 3 1 (1 ∷ 2 ∷ 4 ∷ 5 ∷ []) ∷ holds 11 1 (9 ∷ 10 ∷ 12 ∷ 13 ∷ []) ∷ [])
+          ([] ∷ (named 7 2 ∷ []) ∷ (named 7 2 ∷ []) ∷ []) 100;
+    }
+
 abbrev pub examples : List Example
-examples = none ∷ lone ∷ pair ∷ chain ∷ deep ∷ five ∷ six ∷ wrapped ∷ tied ∷ []
+examples = none ∷ lone ∷ pair ∷ chain ∷ deep ∷ five ∷ six ∷ wrapped ∷ tied ∷ allFull ∷ []
 
 -- The image of example C's keys where 5 is measured (document 02, N4), length 26,500 and correction −250, and 9 is not:
 -- 4C48 03 0200 0100 09.. 4C42 09.. 0100 0200 4C4D 05.. -- -- 0000 0100 84670000 8E12 4C4E 09.. 05.. -- 0100 0100.

@@ -1,4 +1,4 @@
--- The literal definitions of document 01: treap, levels, blocks, slots, image; and its examples A to H.
+-- The literal definitions of document 01, with document 02's fill and measures: treap, levels, blocks, slots, image; and the examples A to H.
 pub mod Treap
 pub mod Levels
 pub mod Blocks

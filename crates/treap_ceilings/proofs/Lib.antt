@@ -6,4 +6,7 @@ pub mod LevelsMet
 pub mod LevelsUsed
 pub mod Unbranched
 pub mod Subsequences
+pub mod FullBlocks
+pub mod FullKeys
+pub mod BlockClaims
 pub mod Claims

@@ -1,1 +1,1 @@
-// The ceilings of a treap's ranks and of the blocks that a search meets. No code.
+// The ceilings of a treap's ranks, of the blocks that a search meets and of the keys that blocks hold. No code.

@@ -1,10 +1,11 @@
--- How many keys a block holds: at most 2α − 1 in the root block, at most 2α − 2 in any other. Assumes an order of at
--- least 2 and rising keys.
-use mathlib.Core.Bool.{Bool, true, false, cond, _||_, _&&_}
-use mathlib.Core.List.{List, [], _∷_, _++_}
-use mathlib.Core.Logic.{_⊎_, _≢_, inl, inr, ⊎-elim}
+-- How many keys a block holds: at most 2α − 1 in the root block, at most 2α − 2 in any other; so all keys together have room
+-- in their blocks. Assumes an order of at least 2 and rising keys.
+use mathlib.Core.Bool.{Bool, true, false, cond, _&&_}
+use mathlib.Core.List.{List, [], _∷_, _++_, flatMap}
+use mathlib.Core.Logic.{_≢_}
 use mathlib.Core.Path.{_≡_, refl, sym, ap, ap₂, _∙_, subst}
-use Prim.Native.Nat.{ℕ, zero, suc, pred, _+_, _*_, _-_, _<_, _≤_}
+use Prim.Native.Nat.{ℕ, suc, pred, _+_, _*_, _-_, _<_, _≤_}
+use native.Mathlib.Nat.{mul-suc, mul-comm}
 use native.Mathlib.Omega.{arith}
 use lib.Dec.{eqb, ltb, leb}
 use lib.ListN.{length, length-append}
@@ -13,22 +14,23 @@ use Rattle.lists.specs.Lists.{consIf, keep, member, All, Rising}
 use Rattle.lists.proofs.Tests.{by-test, true-or-false, and-left, and-right, same-test, and-both}
 use Rattle.lists.proofs.Keep.{all-map, all-both, keep-append, keep-none, keep-same, keep-after, length-keep, length-keep-le, length-keep-or}
 use Rattle.lists.proofs.Membership.{all-member, all-of-members}
-use Rattle.lists.proofs.Rising.{rising-once}
-use Rattle.treap.specs.Treap.{Tree, keys, rootKey, subtree, top, treap}
+use Rattle.lists.proofs.Rising.{rising-once, rising-covered}
+use Rattle.lists.proofs.FlatMap.{length-flatMap-most}
+use Rattle.treap.specs.Treap.{Tree, keys, subtree, top, treap}
 use Rattle.treap.specs.Treap.Tree.{leaf, node}
 use Rattle.treap.specs.Levels.{rank, leader}
-use Rattle.treap.specs.Blocks.{Block, rootRank, rootBlock, block, blocks, isRootBlock}
+use Rattle.treap.specs.Blocks.{Block, rootRank, rootBlock, block, blocks, isRootBlock, room}
 use Rattle.treap_structure.proofs.Shape.{size, length-keys, keys-root, Good, lesser-below, greater-above, treap-keys, treap-good}
 use Rattle.treap_structure.proofs.Subtrees.{inside, good-subtree, subtree-root, subtree-left, subtree-right}
 use Rattle.treap_structure.proofs.Prune.{pruned}
 use Rattle.treap_structure.proofs.Fold.{standing, pruned-away, pruned-away-small}
-use Rattle.treap_structure.proofs.Within.{subtree-of-key, within, within-pruned}
+use Rattle.treap_structure.proofs.Within.{subtree-of-key, within-pruned}
 use Rattle.treap_structure.proofs.Ranks.{pruned-by-rank}
 use Rattle.treap_structure.proofs.Paths.{left-member, right-member}
 use Rattle.treap_structure.proofs.Leaders.{treap-member, member-treap}
 use Rattle.treap_structure.proofs.Columns.{subtree-within, rank-below}
 use Rattle.treap_structure.proofs.Ancestors.{Leads, leader-under, root-key}
-use Rattle.treap_structure.proofs.Blocks.{top-is-root, Formed, blocks-formed, Holds, blocks-hold, root-is-root, below-is-not-root, below-root-rank, led}
+use Rattle.treap_structure.proofs.Blocks.{top-is-root, Formed, blocks-formed, Holds, blocks-hold, root-is-root, below-is-not-root, one-root-block, below-root-rank, led, every-key-held}
 use Rattle.treap_structure.proofs.Blocks.Formed.{at-root, below}
 
 module _ (α : ℕ) (p : ℕ → ℕ) (wide : 2 ≤ α) (ks : List ℕ) (rising : Rising ks) where
@@ -169,7 +171,7 @@ module _ (α : ℕ) (p : ℕ → ℕ) (wide : 2 ≤ α) (ks : List ℕ) (rising 
 
   -- every block, by whether it is the root's
   abbrev pub Bounded : Block → Type 0
-  Bounded b = ((isRootBlock α p ks b ≡ true) × (length (b .held) ≤ 2 * α - 1)) ⊎ ((isRootBlock α p ks b ≡ false) × (length (b .held) ≤ 2 * α - 2))
+  Bounded b = length (b .held) ≤ cond (isRootBlock α p ks b) (2 * α - 1) (2 * α - 2)
 
   pub blocks-bounded : All Bounded (blocks α p ks)
   blocks-bounded = all-map (λ b. Formed α p ks b × Holds α p ks wide rising b) Bounded bounded (blocks α p ks) (all-both (Formed α p ks) (Holds α p ks wide rising) (blocks α p ks) (blocks-formed α p ks) (blocks-hold α p ks wide rising))
@@ -182,5 +184,30 @@ module _ (α : ℕ) (p : ℕ → ℕ) (wide : 2 ≤ α) (ks : List ℕ) (rising 
       bounded b f = go b (f .0) (f .1)
         where
           go : (c : Block) → Formed α p ks c → Holds α p ks wide rising c → Bounded c
-          go c at-root h = let (x, m) = some-key-of (rootBlock α p ks .held) (h .some) (h .keys-of) in inl (root-is-root α p ks, root-block-size x m)
-          go c (below i v l k m s) h = inr (below-is-not-root α p ks i v k, block-size i v (omega arith) m)
+          go c at-root h = let (x, m) = some-key-of (rootBlock α p ks .held) (h .some) (h .keys-of) in rw (root-is-root α p ks) (root-block-size x m)
+          go c (below i v l k m s) h = rw (below-is-not-root α p ks i v k) (block-size i v (omega arith) m)
+
+  -- ---- all keys are in the blocks
+  pub keys-in-blocks : length ks ≤ length (flatMap (λ b. b .held) (blocks α p ks))
+  keys-in-blocks =
+      rising-covered ks (flatMap (λ b. b .held) (blocks α p ks)) rising
+      (all-of-members (λ x. member x (flatMap (λ b. b .held) (blocks α p ks)) ≡ true) ks (every-key-held α p ks wide rising))
+
+  -- one of which is the root's, so there are no more than there is room for
+  pub keys-have-room : length ks ≤ room α (length (blocks α p ks))
+  unfolding room
+  keys-have-room =
+      by-test (ltb 0 (length ks))
+      (λ e.
+      let b = length (blocks α p ks) in
+      let one = ap length (one-root-block α p ks (ltb-true 0 (length ks) e)) in
+      let most =
+      length-flatMap-most (λ c. c .held) (isRootBlock α p ks) (2 * α - 2) (blocks α p ks)
+      (subst (λ (n : ℕ). All (λ c. length (c .held) ≤ cond (isRootBlock α p ks c) n (2 * α - 2)) (blocks α p ks)) (omega arith) blocks-bounded)
+      in
+      let fewer = length-keep (isRootBlock α p ks) (blocks α p ks) in
+      omega (arith, keys-in-blocks, most, one, fewer, mul-suc (2 * α - 2) (b - 1), mul-comm (2 * α - 2) (b - 1), ap (λ (n : ℕ). (2 * α - 2) * n) (above b (omega arith))))
+      (λ e. let none = ltb-false 0 (length ks) e in omega arith)
+    where
+      above : (n : ℕ) → 1 ≤ n → n ≡ suc (n - 1)
+      above n h = omega arith

@@ -12,9 +12,9 @@ use borrow.Author.Tests.{ltb-true, ltb-false, lt-ltb, eqb-true, eqb-false, eq-eq
 use Rattle.lists.specs.Lists.{consIf, keep, member, All, Rising, fallingFrom}
 use Rattle.lists.proofs.Tests.{by-test, true-or-false, and-both, and-false-right}
 use Rattle.lists.proofs.Keep.{all-map, all-mapped, all-always, all-both, all-keep, kept-pass, keep-none, keep-after}
-use Rattle.lists.proofs.Membership.{eqb-same, all-of-members, member-keep}
+use Rattle.lists.proofs.Membership.{eqb-same, some-member, all-of-members, member-keep}
 use Rattle.lists.proofs.Pairwise.{pairwise-keep}
-use Rattle.lists.proofs.FlatMap.{all-flatMap, keep-flatMap, flatMap-same, falling-within, flatMap-none, flatMap-one, keep-one}
+use Rattle.lists.proofs.FlatMap.{all-flatMap, member-flatMap, keep-flatMap, flatMap-same, falling-within, flatMap-none, flatMap-one, keep-one}
 use Rattle.treap.specs.Treap.{Tree, keys, rootKey, top, treap}
 use Rattle.treap.specs.Treap.Tree.{leaf, node}
 use Rattle.treap.specs.Levels.{rank, leader}
@@ -22,11 +22,6 @@ use Rattle.treap.specs.Blocks.{Block, rootRank, rootBlock, block, blocksOfLevel
 use Rattle.treap_structure.proofs.Shape.{Good, top-of-good, top-member, treap-keys, treap-good}
 use Rattle.treap_structure.proofs.Ranks.{root-rank-highest}
 use Rattle.treap_structure.proofs.Ancestors.{Leads, leader-leads, root-key}
-
--- a list that has a member is not empty
-pub some-member : (x : ℕ) (xs : List ℕ) → member x xs ≡ true → 0 < length xs
-some-member x [] m = absurd (true-or-false false m refl)
-some-member x (y ∷ ys) m = omega arith
 
 module _ (p : ℕ → ℕ) (ks : List ℕ) (rising : Rising ks) where
   -- the key that outranks the rest is the treap's root
@@ -100,6 +95,25 @@ module _ (α : ℕ) (p : ℕ → ℕ) (ks : List ℕ) where
       formed-below =
           all-flatMap Formed (blocksOfLevel α p ks) (fallingFrom (pred (rootRank α p ks)))
           (all-map (λ i. (1 ≤ i) × (i ≤ pred (rootRank α p ks))) (λ i. All Formed (blocksOfLevel α p ks i)) (λ i h. formed-level i (h .0) (omega arith)) (fallingFrom (pred (rootRank α p ks))) (falling-within (pred (rootRank α p ks))))
+
+  -- one block is the root's
+  pub level-not-root : (i : ℕ) → i < rootRank α p ks → All (λ b. isRootBlock α p ks b ≡ false) (blocksOfLevel α p ks i)
+  unfolding blocksOfLevel
+  level-not-root i h =
+      all-keep (λ b. isRootBlock α p ks b ≡ false) (λ b. ltb 0 (length (b .held))) (map (block α p ks i) ks)
+      (all-mapped (λ b. isRootBlock α p ks b ≡ false) (block α p ks i) ks (all-always (λ v. isRootBlock α p ks (block α p ks i v) ≡ false) (λ v. below-is-not-root i v h) ks))
+
+  not-root-below : All (λ b. isRootBlock α p ks b ≡ false) (flatMap (blocksOfLevel α p ks) (fallingFrom (pred (rootRank α p ks))))
+  not-root-below =
+      all-flatMap (λ b. isRootBlock α p ks b ≡ false) (blocksOfLevel α p ks) (fallingFrom (pred (rootRank α p ks)))
+      (all-map (λ i. (1 ≤ i) × (i ≤ pred (rootRank α p ks))) (λ i. All (λ b. isRootBlock α p ks b ≡ false) (blocksOfLevel α p ks i)) (λ i h. level-not-root i (omega arith))
+      (fallingFrom (pred (rootRank α p ks))) (falling-within (pred (rootRank α p ks))))
+
+  pub one-root-block : 1 ≤ length ks → keep (isRootBlock α p ks) (blocks α p ks) ≡ rootBlock α p ks ∷ []
+  unfolding blocks
+  one-root-block some =
+      rw (lt-ltb 0 (length ks) some, root-is-root)
+      (ap (λ (bs : List Block). rootBlock α p ks ∷ bs) (keep-none (isRootBlock α p ks) (flatMap (blocksOfLevel α p ks) (fallingFrom (pred (rootRank α p ks)))) not-root-below))
 
   -- the nonempty test may be left out where a member is asked for
   nonempty-after : (x : ℕ) (bs : List Block) → keep (λ b. member x (b .held)) (keep (λ b. ltb 0 (length (b .held))) bs) ≡ keep (λ b. member x (b .held)) bs
@@ -204,6 +218,10 @@ module _ (α : ℕ) (p : ℕ → ℕ) (ks : List ℕ) where
             by-test (ltb (pred (rootRank α p ks)) (rootRank α p ks))
             (λ t. flatMap-none (λ i. block α p ks i (leader α p ks x) ∷ []) (blockLevel x) (pred (rootRank α p ks)) (let h = ltb-true (pred (rootRank α p ks)) (rootRank α p ks) t in omega arith))
             (λ t. let z : pred (rootRank α p ks) ≡ 0 = let h = ltb-false (pred (rootRank α p ks)) (rootRank α p ks) t in omega arith in rw z)
+
+    pub every-key-held : (x : ℕ) → member x ks ≡ true → member x (flatMap (λ b. b .held) (blocks α p ks)) ≡ true
+    unfolding holding
+    every-key-held x m = member-flatMap x (λ b. b .held) (blocks α p ks) (omega (arith, ap length (holding-is x m)))
 
     -- ---- and every block holds keys, rising
     pub record Holds (b : Block) : Type 0 where
