@@ -121,6 +121,18 @@ def keys_ranked(ranking, candidates):
     raise SystemExit("no such keys among the candidates")
 
 
+def keys_at(depths):
+    """Keys that rise and lie so deep in the treap, the root at 0: each is the next whose priority is in the band of its depth."""
+    bands = max(depths) + 1
+    keys, key = [], 0
+    for depth in depths:
+        key += 1
+        while priority(key) * bands // WORD != bands - 1 - depth:
+            key += 1
+        keys.append(key)
+    return keys
+
+
 def many(number):
     """So many keys, and a measure for each, the ends of the rules among them."""
     keys = [(k * 11400714819323198485) % WORD for k in range(1, number + 1)]

@@ -4,6 +4,7 @@
 use crate::archive::{run_archive, Empty};
 use crate::call::{short, Call};
 use crate::ceiling::ceiling_faults;
+use crate::fill::listing_faults;
 use crate::outcome::{differences, refusal_faults, Outcome};
 use crate::random::Random;
 use crate::second_program::run_second_program;
@@ -126,7 +127,8 @@ impl Case<'_> {
 
     /// Counts a call that was made on the table with these outcomes, and reports
     /// it if the programs differ, if the archive's two differ or are wrong in
-    /// themselves, if a lookup goes beyond its ceiling, or if there are faults already.
+    /// themselves, if a lookup or a listed block goes beyond its ceiling or a listing
+    /// has another fill than the rule's, or if there are faults already.
     pub fn judge(
         &mut self,
         call: &Call,
@@ -141,6 +143,7 @@ impl Case<'_> {
         faults.extend(differences(archive, second));
         faults.extend(refusal_faults(&before, archive));
         faults.extend(ceiling_faults(call, &self.table, archive));
+        faults.extend(listing_faults(call, archive));
         self.tally.calls += 1;
         if !faults.is_empty() {
             self.report(call, archive, second, &faults);

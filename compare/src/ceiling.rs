@@ -25,7 +25,8 @@ pub fn ceiling_faults(call: &Call, table: &[u64], after: &Outcome) -> Vec<String
     rank_faults.into_iter().chain(blocks_faults).collect()
 }
 
-fn beyond(name: &str, number: u64, most: u64) -> Option<String> {
+/// What is said of a number that is above its ceiling.
+pub fn beyond(name: &str, number: u64, most: u64) -> Option<String> {
     (number > most).then(|| format!("{name} is {number}, and {most} is the ceiling"))
 }
 
@@ -39,14 +40,14 @@ pub fn missed(after: &Outcome, name: &str, due: u64) -> Option<String> {
 #[cfg(test)]
 mod tests {
     use super::*;
-    use crate::keys::keys_outranking;
+    use crate::keys::keys_at;
     use crate::second_program::run_second_program;
     use crate::tables::{slot_start, sound_table};
 
     /// Document 01's example F: five keys of order 3 in one block, where the ceiling is
     /// two; a table and the lookup of its least key.
     fn example_f() -> (Vec<u64>, Call, Outcome) {
-        let keys = keys_outranking(&[3, 1, 0, 2, 4]);
+        let keys = keys_at(&[3, 1, 0, 2, 4]);
         let table = sound_table(5, 3, &keys);
         let call = Call::LookUp { key: keys[0] };
         let outcome = run_second_program(&call, &table);

@@ -1,23 +1,7 @@
 //! Keys searched out for the places and priorities that they have.
 
+pub use reference::depths::keys_at;
 use reference::priority::{priority, Entry};
-
-/// Rising keys that outrank each other as told: `places[i]` is the place of the
-/// i-th in the order of outranking, 0 for the one that outranks the rest. The
-/// range of priorities is cut into as many bands, and each key is the next
-/// whose priority is in its band.
-pub fn keys_outranking(places: &[usize]) -> Vec<u64> {
-    let band_width = u64::MAX / places.len().max(1) as u64;
-    let mut keys = vec![];
-    let mut key = 0;
-    for place in places {
-        let low = band_width * (places.len() - 1 - place) as u64;
-        let in_band = |key: &u64| (low..low + band_width).contains(&priority(*key));
-        key = (key + 1..).find(in_band).expect("keys are many");
-        keys.push(key);
-    }
-    keys
-}
 
 /// Which way each key of a chain lies from the one above it.
 #[derive(Clone, Copy, Debug, PartialEq, Eq)]
@@ -39,7 +23,7 @@ impl Chain {
             Chain::ToAndFro if 2 * i < number => 2 * i,
             Chain::ToAndFro => 2 * (number - 1 - i) + 1,
         };
-        keys_outranking(&(0..number).map(place).collect::<Vec<_>>())
+        keys_at(&(0..number).map(place).collect::<Vec<_>>())
     }
 
     /// The root and the deepest key of the chain that these keys are.

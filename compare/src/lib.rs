@@ -6,6 +6,7 @@ pub mod batches;
 pub mod call;
 pub mod case;
 pub mod ceiling;
+pub mod fill;
 pub mod generator;
 pub mod keys;
 pub mod list;

@@ -8,11 +8,13 @@ use common::{accepted_calls, table, KEYS};
 use compare::archive::{run_archive, Empty};
 use compare::call::{Call, Place};
 use compare::case::{Plan, Tally};
+use compare::fill::listing_faults;
 use compare::keys::Chain;
 use compare::outcome::{differences, refusal_faults, Outcome};
 use compare::run::{is_good, Total, FEWEST_CALLS};
 use compare::second_program::run_second_program;
-use compare::tables::{listing_length, pages_length, sound_table};
+use compare::tables::{image_of, listing_length, pages_length, sound_table};
+use reference::depths::{full, keys_at};
 use reference::measure::Measure;
 
 /// One of each kind that is refused, on a table that is not one.
@@ -294,6 +296,95 @@ fn a_block_beyond_the_ceiling_is_caught_though_both_agree() {
             .for_each(|outcome| outcome.reply.numbers[4].1 += 1);
         let second = both[0].clone();
         assert_eq!(judged_outcomes(&call, &table, &both, &second), (1, 1));
+    }
+}
+
+/// The listing of thirteen keys of order 3, in full blocks of 5, 4 and 4, by both programs
+/// in agreement, with one part of its text put as another: what is wrong with it.
+fn agreed_faults(part: &str, other: &str) -> Vec<String> {
+    let keys = keys_at(&full(3, 1));
+    let (image, room) = (image_of(3, &keys), listing_length(3, &keys));
+    let call = Call::List { image, room };
+    let mut both = run_archive(&call, &table(), Empty::Address);
+    for outcome in &mut both {
+        let text = String::from_utf8(outcome.bytes.clone()).expect("a text");
+        assert!(text.contains(part), "{part}");
+        outcome.bytes = text.replacen(part, other, 1).into_bytes();
+        outcome.reply.numbers[0].1 = outcome.bytes.len() as u64;
+    }
+    let (second, faults) = (both[0].clone(), listing_faults(&call, &both[0]));
+    let failed = u64::from(!faults.is_empty());
+    assert_eq!(
+        judged_outcomes(&call, &table(), &both, &second),
+        (1, failed)
+    );
+    faults
+}
+
+#[test]
+fn a_true_listing_passes() {
+    assert_eq!(agreed_faults("fill 100", "fill 100"), [""; 0]);
+}
+
+/// In the root block, and in each of the others, one of which has the tenth key as leader.
+#[test]
+fn a_listed_block_beyond_its_ceiling_is_caught_though_both_agree() {
+    let faults = agreed_faults("level 2 keys 5", "level 2 keys 6");
+    let beyond = |place, keys, most| {
+        format!("the number of keys in block {place} is {keys}, and {most} is the ceiling")
+    };
+    assert_eq!(faults, [beyond(0, 6, 5)]);
+    let faults = agreed_faults("level 1 keys 4", "level 1 keys 5");
+    assert_eq!(faults, [beyond(1, 5, 4)]);
+    let last = format!("{:016X} level 1 keys ", keys_at(&full(3, 1))[9]);
+    let faults = agreed_faults(&format!("{last}4"), &format!("{last}5"));
+    assert_eq!(faults, [beyond(2, 5, 4)]);
+}
+
+/// The fills by other rules, those of one key fewer and of other blocks, and none.
+#[test]
+fn a_fill_by_another_rule_is_caught_though_both_agree() {
+    for other in [0, 13, 76, 86, 92, 99] {
+        let told = format!("fill {other}");
+        let faults = agreed_faults("fill 100", &told);
+        assert_eq!(faults, [format!("{told} is not by the rule")]);
+    }
+    let not_by_the_rule = ["fill 100 is not by the rule"];
+    for (part, other) in [
+        ("keys 13", "keys 12"),
+        ("order 3", "order 4"),
+        ("keys 13", "keys 0"),
+    ] {
+        assert_eq!(agreed_faults(part, other), not_by_the_rule);
+    }
+}
+
+/// It is by the rule for fourteen keys, which are more than the blocks can hold.
+#[test]
+fn a_fill_above_a_hundred_is_caught_though_both_agree() {
+    let faults = agreed_faults("keys 13 blocks 3 fill 100", "keys 14 blocks 3 fill 107");
+    assert_eq!(faults, ["fill is 107, and 100 is the ceiling"]);
+}
+
+/// It is by the rule for four blocks.
+#[test]
+fn block_lines_other_than_those_told_are_caught_though_both_agree() {
+    let faults = agreed_faults("blocks 3 fill 100", "blocks 4 fill 76");
+    assert_eq!(faults, ["3 block lines, and 4 blocks are told"]);
+}
+
+#[test]
+fn a_listing_that_cannot_be_read_is_caught_though_both_agree() {
+    for (part, other) in [
+        ("order 3", "order 2"),
+        ("order 3", "order 256"),
+        ("order 3", "Order 3"),
+        ("keys 13", "keys 65536"),
+        ("fill 100", "fill -1"),
+        ("level 2 keys 5", "level 2 keys"),
+        (" root", ""),
+    ] {
+        assert_eq!(agreed_faults(part, other), ["the listing cannot be read"]);
     }
 }
 

@@ -1,4 +1,5 @@
-//! Document 01, section "Blocks", and the blocks that one lookup or several meet.
+//! Document 01, section "Blocks", with the fill of document 02, and the blocks that one
+//! lookup or several meet.
 
 use crate::shape::{Node, Shape};
 use crate::LITERAL_LIMIT;
@@ -42,14 +43,24 @@ pub fn blocks_met_by_all(shape: &Shape, keys: &[u64]) -> u64 {
     }
 }
 
-/// "Fill is 100·n / (b·(2α−1)) rounded down, for n keys in b blocks; 0 when
-/// empty."
+/// Document 02, N8: "Only the root block can reach 2α−1 keys"
+pub fn most_in_root_block(order: u64) -> u64 {
+    2 * order - 1
+}
+
+/// "any other stops at 2α−2."
+pub fn most_in_other_block(order: u64) -> u64 {
+    2 * order - 2
+}
+
+/// "Fill becomes 100·n / ((2α−1) + (b−1)·(2α−2)) rounded down, still 0 when empty",
+/// for n keys in b blocks.
 pub fn fill(order: u64, keys: u64, blocks: u64) -> u64 {
     if keys == 0 {
-        0
-    } else {
-        100 * keys / (blocks * (2 * order - 1))
+        return 0;
     }
+    let others = (blocks - 1) * most_in_other_block(order);
+    100 * keys / (most_in_root_block(order) + others)
 }
 
 // ---------------------------------------------------------------------------

@@ -1,6 +1,7 @@
 //! The second program: the index of document 01 with the load, the batch, the
-//! measures, the sizes, the pages and the promised ceiling of document 02, written
-//! from these documents alone. Slow and literal; it is there to be compared with.
+//! measures, the sizes, the pages, the promised ceiling and the fill of document 02,
+//! written from these documents alone. Slow and literal; it is there to be compared
+//! with.
 //!
 //! The priority is a parameter of every definition, so that the document's
 //! examples, which write their own priorities, can be computed too.
@@ -9,6 +10,7 @@ pub mod batch;
 pub mod blocks;
 pub mod calls;
 pub mod ceiling;
+pub mod depths;
 pub mod fast;
 pub mod image;
 pub mod listing;

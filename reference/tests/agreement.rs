@@ -1,5 +1,5 @@
 //! The faster forms agree with the definitions, also under equal priorities;
-//! and properties that document 01 states of the definitions.
+//! and properties that the documents state of the definitions.
 
 mod common;
 
@@ -36,12 +36,14 @@ fn forms_agree(order: u64, keys: &[u64], priority: Priority) {
         assert_eq!(met, blocks_met_by_all_by_name(&shape, batch));
     }
 
-    // Every key is in one block; "The root block holds at most 2α−1 keys,
-    // others no more."
+    // Every key is in one block; "Only the root block can reach 2α−1 keys; any other
+    // stops at 2α−2." The root block is the first.
     let mut held: Vec<u64> = blocks.iter().flat_map(|b| b.keys.clone()).collect();
     held.sort();
     assert_eq!(held, keys);
-    assert!(blocks.iter().all(|b| b.keys.len() as u64 <= 2 * order - 1));
+    let mut numbers = blocks.iter().map(|b| b.keys.len() as u64);
+    assert!(numbers.next().unwrap_or(0) <= 2 * order - 1);
+    assert!(numbers.all(|number| number <= 2 * order - 2));
 }
 
 /// Tries random sets of up to `most` keys, by the real priority and by written

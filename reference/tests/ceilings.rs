@@ -4,12 +4,11 @@
 
 mod common;
 
-use common::{permutations, Random};
+use common::{falling_priorities, permutations, rising_priorities, Random};
 use reference::blocks::blocks_met;
 use reference::calls::{LookUpReply, PlainReply, REAL};
 use reference::ceiling::{blocks_ceiling, rank_ceiling};
 use reference::fast;
-use reference::priority::priority;
 use reference::table::{length_of_slots, shape_of};
 use reference::{Contents, MOST_SLOTS};
 use std::collections::BTreeSet;
@@ -228,28 +227,6 @@ fn of_all_small_treaps_none_is_beyond_and_one_is_at_the_ceilings() {
 
 // ---------------------------------------------------------------------------
 // Sets that reach it
-
-/// Rising keys whose treap is a chain, as many as a table has slots. The range of
-/// priorities is cut into as many bands, and each key is the next whose priority is in
-/// the next band. The first keys of a chain are one too.
-fn chain(bands: impl Iterator<Item = u64>) -> Vec<u64> {
-    let width = u64::MAX / MOST_SLOTS as u64 + 1;
-    let mut candidates = 1..;
-    let in_band = |band| candidates.find(|&key| priority(key) / width == band);
-    let keys: Vec<u64> = bands.filter_map(in_band).collect();
-    assert_eq!(keys.len(), MOST_SLOTS);
-    keys
-}
-
-/// The least key is the root, the greatest stands deepest.
-fn falling_priorities() -> Vec<u64> {
-    chain((0..MOST_SLOTS as u64).rev())
-}
-
-/// The greatest key is the root, the least stands deepest.
-fn rising_priorities() -> Vec<u64> {
-    chain(0..MOST_SLOTS as u64)
-}
 
 /// By both forms the root has just the rank's ceiling, and the lookup of the deepest key
 /// meets just the blocks' ceiling.

@@ -1,5 +1,6 @@
-//! Document 01's examples A to H with the priorities written there, the lengths
-//! and orders under "Run", and the listing of B. The order is 3 throughout.
+//! Document 01's examples A to H with the priorities written there and document 02's
+//! fill, the lengths and orders under "Run", and the listing of B. The order is 3
+//! throughout.
 
 use reference::blocks::{blocks, blocks_met, fill, Block};
 use reference::calls::{Index, Place, REAL};
@@ -48,6 +49,10 @@ fn block(leader: u64, level: u64, keys: &[u64]) -> Block {
     }
 }
 
+fn fill_of(shape: &Shape) -> u64 {
+    fill(3, shape.nodes.len() as u64, blocks(shape).len() as u64)
+}
+
 fn contents(keys: &[u64]) -> Contents {
     Contents::unmeasured(3, keys)
 }
@@ -94,7 +99,7 @@ fn example_a() {
     assert_eq!(none.root, 0);
     assert_eq!(blocks(&none), []);
     assert_eq!(blocks_met(&none, 7), 0);
-    assert_eq!(fill(3, 0, 0), 0);
+    assert_eq!(fill_of(&none), 0);
     let bytes = image(&priority, &contents(&[]));
     assert_eq!(bytes, [b"LH\x03".to_vec(), vec![0; 12]].concat());
 }
@@ -107,6 +112,7 @@ fn example_b() {
         (vec![0], vec![1], vec![0])
     );
     assert_eq!(blocks(&b), [block(5, 0, &[5])]);
+    assert_eq!(fill_of(&b), 20);
     assert_eq!(image(&falling(&[5]), &contents(&[5])), image_of_b());
     assert_eq!(image(&priority, &contents(&[5])), image_of_b());
 }
@@ -117,6 +123,7 @@ fn example_c() {
     assert_eq!(ranks(&c), [0, 1]);
     assert_eq!(leaders(&c), [9, 0]);
     assert_eq!(blocks(&c), [block(9, 1, &[5, 9])]);
+    assert_eq!(fill_of(&c), 40);
 }
 
 #[test]
@@ -127,6 +134,7 @@ fn example_d() {
     assert_eq!(leaders(&d), [0, 1, 2, 2]);
     assert_eq!(links(&d), [(0, 2), (0, 3), (0, 4), (0, 0)]);
     assert_eq!(blocks(&d), [block(1, 2, &[1, 2]), block(2, 1, &[3, 4])]);
+    assert_eq!(fill_of(&d), 44);
 }
 
 #[test]
@@ -140,6 +148,7 @@ fn example_e() {
         block(5, 1, &[6, 7]),
     ];
     assert_eq!(blocks(&e), expected);
+    assert_eq!(fill_of(&e), 41);
     assert_eq!([7, 8, 1].map(|key| blocks_met(&e, key)), [3, 3, 2]);
 }
 
@@ -148,6 +157,7 @@ fn example_f() {
     let f = shape_of(&[3, 2, 4, 1, 5]);
     assert_eq!(links(&f), [(0, 0), (1, 0), (2, 4), (0, 5), (0, 0)]);
     assert_eq!(blocks(&f), [block(3, 1, &[1, 2, 3, 4, 5])]);
+    assert_eq!(fill_of(&f), 100);
 }
 
 #[test]
@@ -160,7 +170,8 @@ fn example_g() {
         block(4, 1, &[5, 6]),
     ];
     assert_eq!(blocks(&g), expected);
-    assert_eq!(fill(3, 6, 3), 40);
+    // Document 02: "Example G reads 46, and B keeps 20."
+    assert_eq!(fill_of(&g), 46);
 }
 
 /// Both priorities make home 2 of 3 slots; key 8 outranks key 6.
@@ -176,6 +187,7 @@ fn homes_of_h(key: u64) -> u64 {
 fn example_h() {
     assert_eq!(slots(&entries(&homes_of_h, &[6, 8]), 3), [6, 0, 8]);
     assert_eq!(slots(&entries(&homes_of_h, &[6]), 3), [0, 0, 6]);
+    assert_eq!(fill_of(&shape(3, &entries(&homes_of_h, &[6, 8]))), 40);
     let index = Index {
         priority: &homes_of_h,
     };

@@ -10,13 +10,17 @@ HERE = os.path.dirname(os.path.abspath(__file__))
 sys.dont_write_bytecode = True
 sys.path.insert(0, os.path.dirname(HERE))
 
-from shape import WORD, Shape, keys_ranked, many, number, write_case  # noqa: E402
+from shape import WORD, Shape, keys_at, keys_ranked, many, number, write_case  # noqa: E402
+
+
+def fill(order, n, b):
+    """Only the root block can reach 2*order - 1 keys; any other stops at 2*order - 2."""
+    return 100 * n // ((2 * order - 1) + (b - 1) * (2 * order - 2)) if n else 0
 
 
 def listing(shape):
     n, b = len(shape.keys), len(shape.blocks)
-    fill = 100 * n // (b * (2 * shape.order - 1)) if n else 0
-    lines = [f"order {shape.order} keys {n} blocks {b} fill {fill} root {shape.root:016X}"]
+    lines = [f"order {shape.order} keys {n} blocks {b} fill {fill(shape.order, n, b)} root {shape.root:016X}"]
     for leader, level, held in shape.blocks:
         lines.append(f"block {leader:016X} level {level} keys {len(held)}")
         for key in held:
@@ -53,6 +57,19 @@ def measured_cases():
     refused("measure_left_over", lone[:29] + b"LN" + lone[31:])
 
 
+def fills_of_several_blocks():
+    """Three full blocks: on each side of the root a key over one that has two keys on each of its own sides; the same without the
+    key that lies deepest and is the least; and a comb, most of whose blocks hold one tooth."""
+    side = [4, 3, 2, 4, 3, 1]
+    keys = keys_at(side + [0] + side)
+    full = listed("full_blocks", 3, keys)
+    assert [len(held) for leader, level, held in full.blocks] == [5, 4, 4]
+    assert listing(full).startswith("order 3 keys 13 blocks 3 fill 100 ")
+    listed("one_key_fewer_than_full", 3, keys[1:])
+    comb = listed("comb", 20, keys_at([depth for tooth in range(19) for depth in (tooth + 1, tooth)]))
+    assert listing(comb).startswith("order 20 keys 38 blocks 11 fill 9 ")
+
+
 def main():
     listed("example_a", 3, [])
     listed("example_b", 3, [5])
@@ -62,6 +79,7 @@ def main():
     listed("greatest_key", 255, [1, WORD - 1])
     listed("thousand_keys", 7, *many(1000))
     case("thousand_and_one_keys", Shape(7, *many(1001)).image(), "refused 10\n")
+    fills_of_several_blocks()
     measured_cases()
     image = six.image()
     refused("no_bytes", b"")

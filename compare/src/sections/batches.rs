@@ -5,7 +5,7 @@ use super::{exercise, Section, SLOTS};
 use crate::batches::{neighbours_only, random_batch, some_of, with_neighbours};
 use crate::call::Call;
 use crate::case::{Case, Tally};
-use crate::keys::{keys_outranking, keys_with_home, parts, permutations, Chain};
+use crate::keys::{keys_at, keys_with_home, parts, permutations, Chain};
 use crate::outcome::Outcome;
 use crate::tables::{blocks_of, is_measure_word, make_unsound, path_of, table_length};
 
@@ -70,7 +70,7 @@ fn blocks_met(outcome: &Outcome) -> u64 {
 /// "Lookup of 7 or 8 meets three blocks, of 1 two", in real keys that outrank
 /// each other as there. Together they meet four.
 fn example_e(case: &mut Case) {
-    let keys = keys_outranking(&[6, 0, 1, 2, 3, 4, 5]);
+    let keys = keys_at(&[6, 0, 1, 2, 3, 4, 5]);
     let (one, seven, eight) = (keys[0], keys[6], keys[6] + 1);
     exercise::lend_keys(case, 9, 3, &keys);
     meets(case, &[seven], 3);
@@ -133,7 +133,7 @@ fn one_by_one(case: &mut Case, slots: usize) {
 /// Every treap of up to five keys, under every batch of its keys and, up to
 /// three, of these and those next to them.
 fn every_batch(case: &mut Case, places: &[usize]) {
-    let keys = keys_outranking(places);
+    let keys = keys_at(places);
     let mut asked = keys.clone();
     if keys.len() <= 3 {
         asked = with_neighbours(&keys);

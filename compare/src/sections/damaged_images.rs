@@ -5,7 +5,7 @@ use super::{exercise, Section};
 use crate::call::Call;
 use crate::case::{Case, Tally};
 use crate::generator::spoil_image;
-use crate::keys::{keys_outranking, Chain};
+use crate::keys::{keys_at, Chain};
 use crate::measures::random_set;
 use crate::tables::{image_of, measured_image};
 use reference::measure::Measure;
@@ -58,7 +58,7 @@ fn small_images() -> Vec<Vec<u8>> {
         measured_image(4, &[(a, least), (b, greatest)].into()),
         measured_image(3, &chain.map(every_second).collect()),
         // Example E: four blocks at three levels, two of one leader.
-        image_of(3, &keys_outranking(&[6, 0, 1, 2, 3, 4, 5])),
+        image_of(3, &keys_at(&[6, 0, 1, 2, 3, 4, 5])),
     ]
 }
 

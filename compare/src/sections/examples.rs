@@ -1,11 +1,12 @@
-//! Document 01's examples. A and B are as written there. The priorities of C
-//! to H are written in the document, and the archive has only the real one; so
-//! real keys are taken that outrank each other, or have the homes, as there.
+//! Document 01's examples, with document 02's fill. A and B are as written there. The
+//! priorities of C to H are written in the document, and the archive has only the real
+//! one; so real keys are taken that outrank each other, or have the homes, as there.
 
 use super::{exercise, Section};
 use crate::call::Call;
 use crate::case::{Case, Tally};
-use crate::keys::{keys_outranking, keys_with_home, outranks};
+use crate::fill::missed_fill;
+use crate::keys::{keys_at, keys_with_home, outranks};
 use crate::outcome::Outcome;
 use crate::tables::{image_of, listing_length, slot_start};
 
@@ -70,7 +71,7 @@ const EXAMPLES: [Example; 7] = [
         counts: &[1, 1, 2, 1],
         leaders: &[0, 1, 2, 2],
         blocks: &[(1, 2, &[1, 2]), (2, 1, &[3, 4])],
-        fill: 40,
+        fill: 44,
         ..NONE
     },
     // E
@@ -83,7 +84,7 @@ const EXAMPLES: [Example; 7] = [
             (2, 1, &[1]),
             (5, 1, &[6, 7]),
         ],
-        fill: 35,
+        fill: 41,
         met: &[(7, 3), (8, 3), (1, 2)],
         ..NONE
     },
@@ -98,7 +99,7 @@ const EXAMPLES: [Example; 7] = [
     Example {
         falling: &[3, 2, 4, 1, 5, 6],
         blocks: &[(3, 2, &[3, 4]), (3, 1, &[1, 2]), (4, 1, &[5, 6])],
-        fill: 40,
+        fill: 46,
         ..NONE
     },
 ];
@@ -135,7 +136,7 @@ impl Names {
         // B is told with its own key.
         let real = match falling {
             [key] => vec![*key],
-            _ => keys_outranking(&places),
+            _ => keys_at(&places),
         };
         Names { document, real }
     }
@@ -172,7 +173,7 @@ fn try_example(case: &mut Case, example: &Example) {
         told(case, "blocks", &[names.real(key)], &[blocks]);
     }
     blocks_told(case, &names, example.blocks);
-    fill_told(case, &names, example);
+    fill_told(case, &names.real, example.fill);
 }
 
 /// Each look-up gives the number that is told of its key, if one is.
@@ -220,15 +221,12 @@ fn blocks_in(image: &[u8]) -> Vec<(u64, u64, Vec<u64>)> {
     blocks
 }
 
-/// The listing's first line shows the fill.
-fn fill_told(case: &mut Case, names: &Names, example: &Example) {
-    let image = image_of(ORDER, &names.real);
-    let room = listing_length(ORDER, &names.real);
-    let due = format!(" fill {} ", example.fill);
+/// The listing of the rising keys shows the fill.
+fn fill_told(case: &mut Case, keys: &[u64], fill: u64) {
+    let image = image_of(ORDER, keys);
+    let room = listing_length(ORDER, keys);
     case.call_and_check(Call::List { image, room }, |outcome| {
-        let text = String::from_utf8_lossy(&outcome.bytes);
-        let line = text.lines().next().unwrap_or("").to_string();
-        (!line.contains(&due)).then(|| format!("not{due}in: {line}"))
+        missed_fill(outcome, fill)
     });
 }
 
@@ -243,6 +241,7 @@ fn example_h(case: &mut Case) {
     case.lend_sound(3, ORDER, &[]);
     slots_after(case, Call::insert(lower), [0, 0, lower]);
     slots_after(case, Call::insert(upper), [lower, 0, upper]);
+    fill_told(case, &[lower.min(upper), lower.max(upper)], 40);
     slots_after(case, Call::Delete { key: upper }, [0, 0, lower]);
 }
 

@@ -2,7 +2,7 @@
 
 use super::{exercise, Section};
 use crate::case::Tally;
-use crate::keys::{keys_outranking, permutations};
+use crate::keys::{keys_at, permutations};
 
 pub const SECTION: Section = Section {
     name: "shapes",
@@ -16,7 +16,7 @@ fn run(tally: &mut Tally) {
         for places in permutations(number) {
             for order in [3, 4] {
                 tally.case(|case| {
-                    let keys = keys_outranking(&places);
+                    let keys = keys_at(&places);
                     exercise::build(case, number + 1, order, &keys);
                     exercise::write(case);
                     exercise::look_up(case, &keys);

@@ -1,10 +1,11 @@
 //! Random numbers, measures and sets for the tests, and what several of them use.
 #![allow(dead_code)]
 
+use reference::depths::keys_at;
 use reference::measure::Measure;
 use reference::priority::TIES;
 use reference::random::splitmix;
-use reference::Contents;
+use reference::{Contents, MOST_SLOTS};
 use std::collections::BTreeSet;
 
 /// A state of the generator.
@@ -135,6 +136,17 @@ pub fn permutations(rest: &[u64]) -> Vec<Vec<u64>> {
         }
     }
     all
+}
+
+/// Rising keys whose treap is a chain, as many as a table has slots; the first of them
+/// are one too. The least key is the root, the greatest stands deepest.
+pub fn falling_priorities() -> Vec<u64> {
+    keys_at(&Vec::from_iter(0..MOST_SLOTS))
+}
+
+/// The same with the greatest key as the root, and the least deepest.
+pub fn rising_priorities() -> Vec<u64> {
+    keys_at(&Vec::from_iter((0..MOST_SLOTS).rev()))
 }
 
 /// Where an image has the bytes of measures.
