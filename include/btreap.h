@@ -172,7 +172,9 @@ struct btreap_sized btreap_write(const uint64_t *table, size_t words, uint8_t *o
 uint64_t btreap_read(uint64_t *table, size_t words, const uint8_t *image, size_t bytes);
 
 /* Write the text of an image at the start of out: a line for the header, each block and each key; size is its length in bytes, at most ten
- * times the image's, and later bytes of out are as they were. Refusals: 6, 11. */
+ * times the image's, and later bytes of out are as they were. The fill in the first line is how full the blocks are, in percent: of order a,
+ * n keys in b blocks, 100*n / ((2*a - 1) + (b - 1)*(2*a - 2)) rounded down, 0 without keys, since the root block, which is the first, can hold
+ * 2*a - 1 keys and any other 2*a - 2. Refusals: 6, 11. */
 struct btreap_sized btreap_list(const uint8_t *image, size_t bytes, uint8_t *out, size_t out_bytes);
 
 /* Write the keys on pages, a text, at the start of out; size is its length in bytes, and later bytes of out are as they were. The keys

@@ -293,6 +293,10 @@ pub fn read(table: &mut [u64], image: &[u8]) -> Result<(), Refusal> {
 }
 
 /// Write the text of an image at the start of `out`; how many bytes it has. Refusals: 6, 11.
+///
+/// The `fill` in its first line is how full the blocks are, in percent: of order a, n keys in b blocks,
+/// 100·n / ((2a − 1) + (b − 1)·(2a − 2)) rounded down, 0 without keys, since the root block, which is the first,
+/// can hold 2a − 1 keys and any other 2a − 2.
 pub fn list(image: &[u8], out: &mut [u8]) -> Result<usize, Refusal> {
     // SAFETY: as in `build_measured`.
     let reply = unsafe { sys::btreap_list(image.as_ptr(), image.len(), out.as_mut_ptr(), out.len()) };

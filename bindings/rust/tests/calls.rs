@@ -148,3 +148,17 @@ fn an_image_comes_back() {
     let length = btreap::list(&image[..size], &mut text).unwrap();
     assert!(text[..length].starts_with(b"order 3 keys 2 "));
 }
+
+#[test]
+fn a_listing_tells_how_full_the_blocks_are() {
+    // Keys whose priorities are as in document 01's examples B and G.
+    let example_b: (&[u64], &str) = (&[5], "order 3 keys 1 blocks 1 fill 20 root 0000000000000005\n");
+    let example_g: (&[u64], &str) = (&[1, 2, 5, 12, 19, 24], "order 3 keys 6 blocks 3 fill 46 root 0000000000000005\n");
+    for (keys, first_line) in [example_b, example_g] {
+        let mut image = vec![0; btreap::LONGEST_IMAGE];
+        let size = btreap::write(&table_of(6, keys), &mut image).unwrap();
+        let mut text = vec![0; 10 * size];
+        let length = btreap::list(&image[..size], &mut text).unwrap();
+        assert!(text[..length].starts_with(first_line.as_bytes()));
+    }
+}
