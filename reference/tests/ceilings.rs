@@ -191,11 +191,7 @@ fn large_sets_stay_within() {
 fn the_fullest_tables_stay_within() {
     let mut random = Random(84);
     for order in ORDERS {
-        let mut set = BTreeSet::new();
-        while set.len() < MOST_SLOTS {
-            set.insert(random.next().max(1));
-        }
-        let keys: Vec<u64> = set.into_iter().collect();
+        let keys = random.most_keys();
         let some: Vec<u64> = keys.iter().copied().step_by(100).collect();
         stays_within(order, &keys, &with_others(&some));
     }

@@ -14,7 +14,6 @@ use reference::image::image;
 use reference::listing::listing;
 use reference::priority::priority;
 use reference::{Contents, MOST_SLOTS};
-use std::collections::BTreeSet;
 
 // ---------------------------------------------------------------------------
 // Listings, read
@@ -299,11 +298,8 @@ fn large_sets() {
 fn as_many_keys_as_any_table_has() {
     let mut random = Random(94);
     for order in ORDERS {
-        let mut set = BTreeSet::new();
-        while set.len() < MOST_SLOTS {
-            set.insert(random.next().max(1));
-        }
-        are_right(&random.contents(order, &Vec::from_iter(set)));
+        let keys = random.most_keys();
+        are_right(&random.contents(order, &keys));
     }
 }
 

@@ -1,8 +1,8 @@
 -- The claims of how many keys blocks hold, and of the fill. Assumes what each claim says.
 use mathlib.Core.List.{List}
-use mathlib.Core.Path.{_≡_, refl, ap}
+use mathlib.Core.Path.{_≡_, refl, sym, ap, _∙_}
 use Prim.Native.Nat.{ℕ, suc, _*_, _/_, _<_, _≤_}
-use native.Mathlib.Nat.{suc-mul, zero-mul, div-mul-le-self, lt-div-mul-add, div-lt-iff-lt-mul}
+use native.Mathlib.Nat.{suc-mul, le-of-mul-le-mul-right, zero-div, div-mul-le-self, lt-div-mul-add}
 use native.Mathlib.Omega.{arith}
 use lib.Dec.{eqb}
 use lib.ListN.{length}
@@ -19,26 +19,22 @@ some-room : (α b : ℕ) → 1 ≤ α → 1 ≤ room α b
 unfolding room
 some-room α b h = omega arith
 
-fill-enough : (α n b : ℕ) → fill α n b * room α b ≤ 100 * n
+-- without keys the quotient is 0 by itself
+fill-is : (α n b : ℕ) → fill α n b ≡ 100 * n / room α b
 unfolding fill
-fill-enough α n b =
+fill-is α n b =
     by-test (eqb n 0)
-    (λ e. rw e (omega (arith, zero-mul (room α b))))
-    (λ e. rw e (div-mul-le-self (100 * n) (room α b)))
+    (λ e. rw e (sym (ap (λ (m : ℕ). 100 * m / room α b) (eqb-true n 0 e) ∙ zero-div (room α b))))
+    (λ e. rw e)
+
+fill-enough : (α n b : ℕ) → fill α n b * room α b ≤ 100 * n
+fill-enough α n b = rw (fill-is α n b) (div-mul-le-self (100 * n) (room α b))
 
 fill-greatest : (α n b : ℕ) → 1 ≤ α → 100 * n < suc (fill α n b) * room α b
-unfolding fill
-fill-greatest α n b h =
-    by-test (eqb n 0)
-    (λ e. let none = eqb-true n 0 e in rw e (omega (arith, suc-mul 0 (room α b), zero-mul (room α b), some-room α b h)))
-    (λ e. rw e (omega (arith, suc-mul (100 * n / room α b) (room α b), lt-div-mul-add {a = 100 * n} {b = room α b} (some-room α b h))))
+fill-greatest α n b h = rw (fill-is α n b) (omega (arith, suc-mul (100 * n / room α b) (room α b), lt-div-mul-add {a = 100 * n} {b = room α b} (some-room α b h)))
 
 fill-percent : (α n b : ℕ) → 1 ≤ α → n ≤ room α b → fill α n b ≤ 100
-unfolding fill
-fill-percent α n b h few =
-    by-test (eqb n 0)
-    (λ e. rw e (omega arith))
-    (λ e. rw e (let under = div-lt-iff-lt-mul {k = room α b} {x = 100 * n} {y = 101} (some-room α b h) .1 (omega (arith, some-room α b h)) in omega arith))
+fill-percent α n b h few = le-of-mul-le-mul-right {m = fill α n b} {n = 100} {k = room α b} (omega (arith, fill-enough α n b)) (some-room α b h)
 
 fill-full : (α n b : ℕ) → n ≤ room α b → fill α n b ≡ 100 → n ≡ room α b
 fill-full α n b few all = omega (arith, fill-enough α n b, ap (λ (f : ℕ). f * room α b) all)

@@ -190,15 +190,16 @@ module _ (α : ℕ) (wide : 2 ≤ α) where
           taken : ℕ → ℕ → Bool
           taken v x = eqb (suc (rank α p ks x)) 1 && eqb (leader α p ks x) v
 
-          is-w : (v x : ℕ) → Place x → taken v x ≡ true → eqb v w ≡ true
-          is-w v x (at-root h) e = absurd (let q = eqb-true (suc (rank α p ks x)) 1 (and-left (eqb (suc (rank α p ks x)) 1) (eqb (leader α p ks x) v) e) in omega arith)
-          is-w v x (below-root h i) e = absurd (let q = eqb-true (suc (rank α p ks x)) 1 (and-left (eqb (suc (rank α p ks x)) 1) (eqb (leader α p ks x) v) e) in omega arith)
-          is-w v x (lowest h i) e = eq-eqb v w (sym (eqb-true (leader α p ks x) v (and-right (eqb (suc (rank α p ks x)) 1) (eqb (leader α p ks x) v) e)) ∙ i)
+          is-w : (v x : ℕ) → Place x → suc (rank α p ks x) ≡ 1 → leader α p ks x ≡ v → eqb v w ≡ true
+          is-w v x (at-root h) e q = absurd (omega arith)
+          is-w v x (below-root i h) e q = absurd (omega arith)
+          is-w v x (lowest h i) e q = eq-eqb v w (sym q ∙ i)
 
           leads : (v : ℕ) → 0 < length (keep (taken v) ks) → eqb v w ≡ true
           leads v h =
               let (x, m, e) = some-kept (taken v) (λ x. member x ks ≡ true) ks (all-of-members (λ x. member x ks ≡ true) ks (λ x m. m)) h in
-              is-w v x (place x m) e
+              is-w v x (place x m) (eqb-true (suc (rank α p ks x)) 1 (and-left (eqb (suc (rank α p ks x)) 1) (eqb (leader α p ks x) v) e))
+              (eqb-true (leader α p ks x) v (and-right (eqb (suc (rank α p ks x)) 1) (eqb (leader α p ks x) v) e))
 
       two : blocks α p ks ≡ rootBlock α p ks ∷ blocksOfLevel α p ks 1
       unfolding blocks flatMap

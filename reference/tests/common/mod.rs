@@ -41,6 +41,15 @@ impl Random {
         set.into_iter().collect()
     }
 
+    /// A rising list of any keys, as many as the longest table has slots.
+    pub fn most_keys(&mut self) -> Vec<u64> {
+        let mut set = BTreeSet::new();
+        while set.len() < MOST_SLOTS {
+            set.insert(self.next().max(1));
+        }
+        set.into_iter().collect()
+    }
+
     /// The measure of a measured key, at an end of the rules now and then.
     pub fn measured(&mut self) -> Measure {
         let length = match self.below(8) {
