@@ -18,34 +18,35 @@ use btreap_structs::SizedReply;
 use btreap_structs::SteppedReply;
 use index::Question;
 
-// Make of any words of a right length the blank table of an order. Refusals: 1, 2.
+// Make of any words of a right length the blank table of an order and a salt, which is any number. Refusals: 1, 2.
 #[no_mangle]
-pub extern "C" fn btreap_set_up(table: &mut [u64], order: u64) -> u64
+pub extern "C" fn btreap_set_up(table: &mut [u64], order: u64, salt: u64) -> u64
     ensures { λ r. ⌜ r ≡ setUpReply (now (table .entry)) order .refusal ⌝ }
-    ensures { λ _. ⌜ now (table .exit) ≡ setUpAfter (now (table .entry)) order ⌝ }
+    ensures { λ _. ⌜ now (table .exit) ≡ setUpAfter (now (table .entry)) order salt ⌝ }
 {
-    let answer = index::set_up(table, order);
+    let answer = index::set_up(table, order, salt);
     btreap_structs::set_up(answer)
 }
 
-// Make of any words of a right length the table of an order and a strictly rising list of keys with their measures: the lengths and the
-// corrections, one of each beside each key. Refusals: 1, 2, 5, 12, 10.
+// Make of any words of a right length the table of an order, a salt, which is any number, and a strictly rising list of keys with their
+// measures: the lengths and the corrections, one of each beside each key. Refusals: 1, 2, 5, 12, 10.
 #[no_mangle]
 pub extern "C" fn btreap_build(
     table: &mut [u64],
     order: u64,
+    salt: u64,
     keys: &[u64],
     lengths: &[u64],
     corrections: &[i32],
 ) -> u64
     ensures { λ r. ⌜ r ≡ buildReply (now (table .entry)) order (now (keys .entry)) (now (lengths .entry)) (now (corrections .entry)) .refusal ⌝ }
-    ensures { λ _. ⌜ now (table .exit) ≡ buildAfter (now (table .entry)) order (now (keys .entry)) (now (lengths .entry)) (now (corrections .entry)) ⌝ }
+    ensures { λ _. ⌜ now (table .exit) ≡ buildAfter (now (table .entry)) order salt (now (keys .entry)) (now (lengths .entry)) (now (corrections .entry)) ⌝ }
 {
-    let answer = index::build(table, order, keys, lengths, corrections);
+    let answer = index::build(table, order, salt, keys, lengths, corrections);
     btreap_structs::built(answer)
 }
 
-// Make of any words of a right length the table of an order and of the keys that `count` operations after a seed leave. Refusals: 1, 2.
+// Make of any words of a right length the table of an order, of salt zero and of the keys that `count` operations after a seed leave. Refusals: 1, 2.
 #[no_mangle]
 pub extern "C" fn btreap_load(table: &mut [u64], order: u64, seed: u64, count: u16) -> u64
     ensures { λ r. ⌜ r ≡ loadReply (now (table .entry)) order .refusal ⌝ }

@@ -11,10 +11,9 @@ use borrow.Author.Tests.{ltb-true}
 use Rattle.lists.specs.Lists.{keep, some, All, Rising}
 use Rattle.lists.proofs.Tests.{and-left, and-right}
 use Rattle.lists.proofs.Keep.{all-map, all-always, keep-same, length-keep}
-use Rattle.priority.specs.Priority.{priorityOf}
 use Rattle.treap.specs.Blocks.{Block, blocks, meets, blocksMetByAll}
 use Rattle.table.specs.Layout.{mostSlots}
-use Rattle.table.specs.Contents.{Contents, keysIn}
+use Rattle.table.specs.Contents.{Contents, keysIn, priorityIn}
 use Rattle.table.proofs.Soundness.{shown-fit, shown-nonzero}
 use Rattle.table_limits.specs.Lengths.{slotsFor}
 use Rattle.table_limits.proofs.Lengths.{slots-for-some}
@@ -44,14 +43,14 @@ module _ (words : List ℕ) (sound : isSound words ≡ true) where
   positive = shown-nonzero (slotsFor (length words)) words
 
   abbrev all-blocks : List Block
-  all-blocks = blocks (c .order) priorityOf (keysIn c)
+  all-blocks = blocks (c .order) (priorityIn c) (keysIn c)
 
-  pub blocks-most : length (blocks (shown words .order) priorityOf (keysIn (shown words))) ≤ mostSlots
+  pub blocks-most : length (blocks (shown words .order) (priorityIn (shown words)) (keysIn (shown words))) ≤ mostSlots
   unfolding shown
   blocks-most =
       omega (
         arith,
-        blocks-few (c .order) priorityOf wide (keysIn c) rising,
+        blocks-few (c .order) (priorityIn c) wide (keysIn c) rising,
         shown-fit (slotsFor (length words)) words,
         slots-for-some (length words) (some-slots words sound) .within,
       )
@@ -60,7 +59,7 @@ module _ (words : List ℕ) (sound : isSound words ≡ true) where
   record Reached (asked : List ℕ) (so : Progress) : Type 0 where
     last-is : so .key ≡ lastOf asked
     before-is : so .before ≡ beforeOf asked
-    met : so .blocks ≡ blocksMetByAll (c .order) priorityOf (keysIn c) asked
+    met : so .blocks ≡ blocksMetByAll (c .order) (priorityIn c) (keysIn c) asked
     falls : Falling asked
     low : All (λ k. 1 ≤ k) asked
 
@@ -76,9 +75,9 @@ module _ (words : List ℕ) (sound : isSound words ≡ true) where
   one-under (x ∷ []) falls = omega arith
   one-under (x ∷ y ∷ zs) falls = omega (arith, falls .0 .0)
 
-  met-few : (asked : List ℕ) → blocksMetByAll (c .order) priorityOf (keysIn c) asked ≤ mostSlots
+  met-few : (asked : List ℕ) → blocksMetByAll (c .order) (priorityIn c) (keysIn c) asked ≤ mostSlots
   unfolding blocksMetByAll
-  met-few asked = omega (arith, length-keep (λ b. some (λ k. meets (c .order) priorityOf (keysIn c) k b) asked) all-blocks, blocks-most)
+  met-few asked = omega (arith, length-keep (λ b. some (λ k. meets (c .order) (priorityIn c) (keysIn c) k b) asked) all-blocks, blocks-most)
 
   module _ (asked : List ℕ) (so : Progress) (here : Reached asked so) (key : ℕ) (above : so .key < key) where
     on-top : Falling (key ∷ asked)
@@ -107,7 +106,7 @@ module _ (words : List ℕ) (sound : isSound words ≡ true) where
 
   -- ---- all lines
   abbrev met-by : List ℕ → Block → Bool
-  met-by keys b = some (λ k. meets (c .order) priorityOf (keysIn c) k b) keys
+  met-by keys b = some (λ k. meets (c .order) (priorityIn c) (keysIn c) k b) keys
 
   lines : (keys asked : List ℕ) (so : Progress) → Reached asked so → rises (so .key) keys ≡ true
       → Askable words so keys × (progress words so keys .blocks ≡ length (keep (λ b. met-by keys b || met-by asked b) all-blocks))
@@ -120,7 +119,7 @@ module _ (words : List ℕ) (sound : isSound words ≡ true) where
         count
             ∙ ap length
             (keep-same (λ b. met-by keys b || met-by (key ∷ asked) b) (λ b. met-by (key ∷ keys) b || met-by asked b) all-blocks
-            (all-always (λ b. (met-by keys b || met-by (key ∷ asked) b) ≡ (met-by (key ∷ keys) b || met-by asked b)) (λ b. turned (met-by keys b) (meets (c .order) priorityOf (keysIn c) key b) (met-by asked b)) all-blocks)),
+            (all-always (λ b. (met-by keys b || met-by (key ∷ asked) b) ≡ (met-by (key ∷ keys) b || met-by asked b)) (λ b. turned (met-by keys b) (meets (c .order) (priorityIn c) (keysIn c) key b) (met-by asked b)) all-blocks)),
       )
     where
       turned : (k m a : Bool) → (k || (m || a)) ≡ ((m || k) || a)
@@ -129,7 +128,7 @@ module _ (words : List ℕ) (sound : isSound words ≡ true) where
   pub can-ask : (keys : List ℕ) → rises 0 keys ≡ true → Askable words nothingAsked keys
   can-ask keys up = lines keys [] nothingAsked reached-none up .0
 
-  pub blocks-are : (keys : List ℕ) → rises 0 keys ≡ true → progress words nothingAsked keys .blocks ≡ blocksMetByAll (shown words .order) priorityOf (keysIn (shown words)) keys
+  pub blocks-are : (keys : List ℕ) → rises 0 keys ≡ true → progress words nothingAsked keys .blocks ≡ blocksMetByAll (shown words .order) (priorityIn (shown words)) (keysIn (shown words)) keys
   unfolding blocksMetByAll
   blocks-are keys up =
       lines keys [] nothingAsked reached-none up .1

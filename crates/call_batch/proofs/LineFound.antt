@@ -9,7 +9,6 @@ use lib.ListN.{length}
 use Rattle.lists.specs.Lists.{member}
 use Rattle.lists.proofs.Tests.{by-test}
 use Rattle.lists.proofs.Keep.{length-keep}
-use Rattle.priority.specs.Priority.{priorityOf}
 use Rattle.treap.specs.Blocks.{blocks}
 use Rattle.table.specs.Layout.{mostSlots}
 use Rattle.table.specs.Table.{contentsOf}
@@ -17,7 +16,7 @@ use Rattle.table_limits.specs.Lengths.{slotsFor}
 use Rattle.table_judge.specs.Judge.{isSound}
 use Rattle.table_descend.specs.Lookup.{standingOf, earlier, newlyMet, lookedUpAfter}
 use Rattle.table_descend.specs.declared.Looked.{Looked}
-use Rattle.table.specs.Contents.{keysIn}
+use Rattle.table.specs.Contents.{keysIn, priorityIn}
 use Rattle.table_descend.specs.declared.Looked.the-variants.{Held, Absent}
 use Rattle.call_meaning.specs.Reasons.{shown}
 use Rattle.call_meaning.specs.Calls.{rankIn, standingIn, lookupRefusal, lookupReply}
@@ -65,7 +64,7 @@ module _ (words : List ℕ) (sound : isSound words ≡ true) (key : ℕ) (positi
     few-found =
         let c = shown words in
         let all : newIn found ≡ newlyMet c (earlier (so .key) (so .before)) key = ap newIn in-shown ∙ either (member key (keysIn c)) in
-        let few : newlyMet c (earlier (so .key) (so .before)) key ≤ length (blocks (c .order) priorityOf (keysIn c)) = length-keep _ (blocks (c .order) priorityOf (keysIn c)) in
+        let few : newlyMet c (earlier (so .key) (so .before)) key ≤ length (blocks (c .order) (priorityIn c) (keysIn c)) = length-keep _ (blocks (c .order) (priorityIn c) (keysIn c)) in
         omega (arith, blocks-most words sound)
       where
         either : (b : Bool) → newIn (cond b (Held (standingOf (shown words) key) (newlyMet (shown words) (earlier (so .key) (so .before)) key)) (Absent (newlyMet (shown words) (earlier (so .key) (so .before)) key)))

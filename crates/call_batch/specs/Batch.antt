@@ -2,8 +2,7 @@
 use mathlib.Core.List.{List, [], _∷_, map}
 use Prim.Native.Nat.{ℕ}
 use lib.ListN.{getD}
-use Rattle.table.specs.Contents.{keysIn}
-use Rattle.priority.specs.Priority.{priorityOf}
+use Rattle.table.specs.Contents.{keysIn, priorityIn}
 use Rattle.treap.specs.Blocks.{blocksMetByAll}
 use Rattle.call_replies.specs.Replies.{Reply, firstThatApplies, unlessRefused}
 use Rattle.call_meaning.specs.Reasons.{wrongLength, notRising, notSound, shown}
@@ -35,7 +34,7 @@ batchReply words questions =
       refusal = batchRefusal words questions;
       numbers =
           unlessRefused (batchRefusal words questions)
-          (blocksMetByAll (shown words .order) priorityOf (keysIn (shown words)) (keysOf questions) ∷ [])
+          (blocksMetByAll (shown words .order) (priorityIn (shown words)) (keysIn (shown words)) (keysOf questions) ∷ [])
           (0 ∷ []);
     }
 

@@ -24,10 +24,10 @@ use Rattle.call_meaning.specs.Reasons.{wrongLength, wrongOrder, notRising, wron
 use Rattle.call_meaning.specs.Calls.{rewritten, buildRefusal, buildReply, buildAfter}
 use Rattle.table_decode.proofs.RisingKeys.{rising-says}
 
-module _ (words : List ℕ) (order : ℕ) (list lengths : List ℕ) (corrections : List ℤ) where
+module _ (words : List ℕ) (order salt : ℕ) (list lengths : List ℕ) (corrections : List ℤ) where
   -- What a build that answers so and leaves these words meets.
   abbrev Meets : Built → List ℕ → Type 0
-  Meets answer after = (builtOf answer ≡ buildReply words order list lengths corrections) × (after ≡ buildAfter words order list lengths corrections)
+  Meets answer after = (builtOf answer ≡ buildReply words order list lengths corrections) × (after ≡ buildAfter words order salt list lengths corrections)
 
   pub refused-length : slotsFor (length words) ≡ 0 → Meets (Refused WrongLength) words
   unfolding buildReply buildAfter buildRefusal wrongLength
@@ -63,11 +63,11 @@ module _ (words : List ℕ) (order : ℕ) (list lengths : List ℕ) (corrections
               (rw (right-length, right, rise, measured, more), rw (right-length, right, rise, measured, more))
 
           pub accepted : length list ≤ many → (after : List ℕ)
-              → after ≡ fresh many (record { order = order; entries = entriesWith list (measuresBeside lengths corrections) }) → Meets Done after
+              → after ≡ fresh many (record { order = order; salt = salt; entries = entriesWith list (measuresBeside lengths corrections) }) → Meets Done after
           unfolding buildReply buildAfter buildRefusal wrongLength wrongOrder notRising wrongMeasures tooManyKeys rewritten
           accepted h after e =
               let fit : ltb (slotsFor (length words)) (length list) ≡ false = le-ltb (slotsFor (length words)) (length list) (omega arith) in
-              let contents : Contents = record { order = order; entries = entriesWith list (measuresBeside lengths corrections) } in (
+              let contents : Contents = record { order = order; salt = salt; entries = entriesWith list (measuresBeside lengths corrections) } in (
                 rw (right-length, right, rise, measured, fit),
                 rw (right-length, right, rise, measured, fit) (e ∙ ap (λ (n : ℕ). fresh n contents) here),
               )

@@ -41,12 +41,12 @@ module _ (keys lengths : List ℕ) (corrections : List ℤ)
   tags-first old new e = starts-with new old (tagsBeside lengths corrections) (length keys) e as-many-tags
 
   -- the set of the keys with the tags is that of the keys with the measures
-  tags-show : (order : ℕ) → tagged order keys (tagsBeside lengths corrections) ≡ record { order = order; entries = entriesWith keys (measuresBeside lengths corrections) }
-  tags-show order =
-      ap (λ (measures : List Measure). record { order = order; entries = entriesWith keys measures })
+  tags-show : (order salt : ℕ) → tagged order salt keys (tagsBeside lengths corrections) ≡ record { order = order; salt = salt; entries = entriesWith keys (measuresBeside lengths corrections) }
+  tags-show order salt =
+      ap (λ (measures : List Measure). record { order = order; salt = salt; entries = entriesWith keys measures })
       (shown-again (measuresBeside lengths corrections) measures-right)
 
-  pub tags-written : (many order : ℕ) (after tags : List ℕ) → tags ≡ tagsBeside lengths corrections → after ≡ fresh many (tagged order keys tags)
-      → after ≡ fresh many (record { order = order; entries = entriesWith keys (measuresBeside lengths corrections) })
-  tags-written many order after tags e written =
-      written ∙ ap (λ (ts : List ℕ). fresh many (tagged order keys ts)) e ∙ ap (fresh many) (tags-show order)
+  pub tags-written : (many order salt : ℕ) (after tags : List ℕ) → tags ≡ tagsBeside lengths corrections → after ≡ fresh many (tagged order salt keys tags)
+      → after ≡ fresh many (record { order = order; salt = salt; entries = entriesWith keys (measuresBeside lengths corrections) })
+  tags-written many order salt after tags e written =
+      written ∙ ap (λ (ts : List ℕ). fresh many (tagged order salt keys ts)) e ∙ ap (fresh many) (tags-show order salt)

@@ -1,4 +1,4 @@
-// Making a table of any words: the blank one of an order, or that of an order and a list of keys with their measures.
+// Making a table of any words: the blank one of an order and a salt, or that of these and a list of keys with their measures.
 ghost use mathlib.Core.Path.{_≡_};
 ghost use mathlib.Core.Bool.{true};
 ghost use Prim.Native.Nat.{_<_, _≤_};
@@ -16,6 +16,7 @@ use call_replies::Refusal;
 use call_replies::SetUp;
 use priority::CONSTANT_COUNT;
 use table::ORDER_WORD;
+use table::SALT_WORD;
 
 // Make every word zero.
 fn clear(words: &mut [u64])
@@ -26,10 +27,10 @@ fn clear(words: &mut [u64])
     }
 }
 
-// Make of any words of a right length the blank table of an order. Refusals: 1, 2.
-pub fn set_up(table: &mut [u64], order: u64) -> SetUp
+// Make of any words of a right length the blank table of an order and a salt, which is any number. Refusals: 1, 2.
+pub fn set_up(table: &mut [u64], order: u64, salt: u64) -> SetUp
     ensures { λ r. ⌜ setUpOf r ≡ setUpReply (now (table .entry)) order ⌝ }
-    ensures { λ _. ⌜ now (table .exit) ≡ setUpAfter (now (table .entry)) order ⌝ }
+    ensures { λ _. ⌜ now (table .exit) ≡ setUpAfter (now (table .entry)) order salt ⌝ }
 {
     if table_limits::slots_for(table.len()) == 0 {
         return SetUp::Refused(Refusal::WrongLength);
@@ -39,6 +40,7 @@ pub fn set_up(table: &mut [u64], order: u64) -> SetUp
     }
     clear(table);
     table[ORDER_WORD] = order;
+    table[SALT_WORD] = salt;
     SetUp::Done
 }
 
@@ -55,7 +57,7 @@ fn are_measured(n: usize, lengths: &[u64], corrections: &[i32]) -> bool
     measure::are_measures(lengths, corrections)
 }
 
-// Write the table of an order and keys with the measures beside them, with `tags` to work in.
+// Write the table of an order, a salt and keys with the measures beside them, with `tags` to work in.
 fn write_within(
     order: u64,
     keys: &[u64],
@@ -65,18 +67,19 @@ fn write_within(
     tags: &mut [u64],
     table: &mut [u64],
     constants: &[u64; CONSTANT_COUNT],
+    salt: u64,
 )
     requires { ⌜ Keys order (now keys) ⌝ }
     requires { ⌜ areMeasured (length (now keys)) (now lengths) (now corrections) ≡ true ⌝ }
     requires { ⌜ (0 < many) × (length (now keys) ≤ many) × (length (now table) ≡ tableWords many) × (many ≤ mostSlots) × (many ≤ length (now tags)) × HoldsConstants (now constants) ⌝ }
-    ensures { λ _. ⌜ now (table .exit) ≡ fresh many (record { order = order; entries = entriesWith (now (keys .entry)) (measuresBeside (now (lengths .entry)) (now (corrections .entry))) }) ⌝ }
+    ensures { λ _. ⌜ now (table .exit) ≡ fresh many (record { order = order; salt = salt; entries = entriesWith (now (keys .entry)) (measuresBeside (now (lengths .entry)) (now (corrections .entry))) }) ⌝ }
 {
     measure::put_tags(lengths, corrections, tags);
     let n = keys.len();
-    table_write::write(order, keys, &tags[..n], many, table, constants);
+    table_write::write(order, keys, &tags[..n], many, table, constants, salt);
 }
 
-// Write the table of an order and keys with the measures beside them, with room for the tags, and the constants of the priorities made for it.
+// Write the table of an order, a salt and keys with the measures beside them, with room for the tags, and the constants of the priorities made for it.
 fn write(
     order: u64,
     keys: &[u64],
@@ -84,11 +87,12 @@ fn write(
     corrections: &[i32],
     many: usize,
     table: &mut [u64],
+    salt: u64,
 )
     requires { ⌜ Keys order (now keys) ⌝ }
     requires { ⌜ areMeasured (length (now keys)) (now lengths) (now corrections) ≡ true ⌝ }
     requires { ⌜ (0 < many) × (length (now keys) ≤ many) × (length (now table) ≡ tableWords many) × (many ≤ mostSlots) ⌝ }
-    ensures { λ _. ⌜ now (table .exit) ≡ fresh many (record { order = order; entries = entriesWith (now (keys .entry)) (measuresBeside (now (lengths .entry)) (now (corrections .entry))) }) ⌝ }
+    ensures { λ _. ⌜ now (table .exit) ≡ fresh many (record { order = order; salt = salt; entries = entriesWith (now (keys .entry)) (measuresBeside (now (lengths .entry)) (now (corrections .entry))) }) ⌝ }
 {
     let constants = priority::constant_table();
     let mut tags = [0u64; 4096];
@@ -101,20 +105,22 @@ fn write(
         &mut tags,
         table,
         &constants,
+        salt,
     );
 }
 
-// Make of any words of a right length the table of an order and a strictly rising list of keys with their measures: the lengths and the
+// Make of any words of a right length the table of an order, a salt, which is any number, and a strictly rising list of keys with their measures: the lengths and the
 // corrections, one of each beside each key. Refusals: 1, 2, 5, 12, 10.
 pub fn build(
     table: &mut [u64],
     order: u64,
+    salt: u64,
     list: &[u64],
     lengths: &[u64],
     corrections: &[i32],
 ) -> Built
     ensures { λ r. ⌜ builtOf r ≡ buildReply (now (table .entry)) order (now (list .entry)) (now (lengths .entry)) (now (corrections .entry)) ⌝ }
-    ensures { λ _. ⌜ now (table .exit) ≡ buildAfter (now (table .entry)) order (now (list .entry)) (now (lengths .entry)) (now (corrections .entry)) ⌝ }
+    ensures { λ _. ⌜ now (table .exit) ≡ buildAfter (now (table .entry)) order salt (now (list .entry)) (now (lengths .entry)) (now (corrections .entry)) ⌝ }
 {
     let many = table_limits::slots_for(table.len());
     if many == 0 {
@@ -132,6 +138,6 @@ pub fn build(
     if many < list.len() {
         return Built::Refused(Refusal::TooManyKeys);
     }
-    write(order, list, lengths, corrections, many, table);
+    write(order, list, lengths, corrections, many, table, salt);
     Built::Done
 }

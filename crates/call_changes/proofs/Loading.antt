@@ -12,7 +12,7 @@ use borrow.Author.Tests.{eqb-false}
 use Rattle.lists.specs.Lists.{All, member}
 use Rattle.lists.proofs.Tests.{by-test, or-false-left, or-false-right}
 use Rattle.measure.proofs.Stored.{unmeasured-right}
-use Rattle.table.specs.Contents.{Entry, Contents, entryKeys, keysIn, IsKey, Valid, newOrder}
+use Rattle.table.specs.Contents.{Entry, Contents, entryKeys, keysIn, IsKey, Valid, newOrder, IsSalt}
 use Rattle.call_sets.specs.Load.{Operation, inserting, deleting, lookingUp, keyFrom, highestBits, chosen, operations, plain, done, doneAll, loaded}
 use Rattle.call_sets.proofs.Members.{joined-right, left-right}
 use Rattle.call_changes.specs.Done.{IsLoadKey, withDone}
@@ -48,9 +48,9 @@ operations-keys s zero = tt
 operations-keys s (suc count) = (is-key _ (chosen-key _), operations-keys _ count)
 
 -- ---- sets
--- The order and the set of a table, with what operations make of the set.
+-- The order, the salt and the set of a table, with what operations make of the set.
 abbrev pub withAllDone : ℕ → List Operation → Contents → Contents
-withAllDone many ops c = record { order = c .order; entries = doneAll many ops (c .entries) }
+withAllDone many ops c = record { order = c .order; salt = c .salt; entries = doneAll many ops (c .entries) }
 
 pub done-all : (P : Entry → Type 0) (many : ℕ) (operation : Operation) (set : List Entry) → P (plain (keyOf operation)) → All P set → All P (done many operation set)
 unfolding done
@@ -77,11 +77,11 @@ module _ (many : ℕ) where
   all-done-valid (operation ∷ ops) c right valid =
       all-done-valid ops (withDone many operation c) (right .1) (done-valid operation c (right .0) valid)
 
-  pub blank-valid : (order : ℕ) → newOrder order ≡ true → Valid many (record { order = order; entries = [] })
+  pub blank-valid : (order salt : ℕ) → newOrder order ≡ true → IsSalt salt → Valid many (record { order = order; salt = salt; entries = [] })
   unfolding newOrder
-  blank-valid order right = record { order-right = right; keys-right = tt; keys-rise = tt; keys-fit = omega arith; measures-right = tt }
+  blank-valid order salt right fits = record { order-right = right; salt-right = fits; keys-right = tt; keys-rise = tt; keys-fit = omega arith; measures-right = tt }
 
-  pub loaded-valid : (order seed count : ℕ) → newOrder order ≡ true → Valid many (record { order = order; entries = loaded many seed count })
+  pub loaded-valid : (order seed count : ℕ) → newOrder order ≡ true → Valid many (record { order = order; salt = 0; entries = loaded many seed count })
   unfolding loaded
   loaded-valid order seed count right =
-      all-done-valid (operations seed count) (record { order = order; entries = [] }) (operations-keys seed count) (blank-valid order right)
+      all-done-valid (operations seed count) (record { order = order; salt = 0; entries = [] }) (operations-keys seed count) (blank-valid order 0 right (omega arith))

@@ -43,10 +43,11 @@ module _ (entry : Entry) where
   joined-member es = joined-members entry (entry .key) es ∙ or-true-left (eqb (entry .key) (entry .key)) _ (eqb-same (entry .key))
 
   pub joined-valid : (many : ℕ) (c : Contents) → Valid many c → IsKey (entry .key) → isMeasure (entry .measure) ≡ true → member (entry .key) (keysIn c) ≡ false
-      → length (keysIn c) < many → Valid many (record { order = c .order; entries = joined entry (c .entries) })
+      → length (keysIn c) < many → Valid many (record { order = c .order; salt = c .salt; entries = joined entry (c .entries) })
   joined-valid many c valid right measured absent room =
       record {
         order-right = valid .order-right;
+        salt-right = valid .salt-right;
         keys-right = subst (All IsKey) (sym (joined-keys entry (c .entries)))
             (all-permuted IsKey (Permᴰ·symm (insertBy-permutes ltb (entry .key) (keysIn c))) (right, valid .keys-right));
         keys-rise = subst Rising (sym (joined-keys entry (c .entries))) (inserted-rising (entry .key) (keysIn c) (valid .keys-rise) absent);
@@ -56,10 +57,11 @@ module _ (entry : Entry) where
 
 -- ---- a key less
 module _ (key : ℕ) where
-  pub without-valid : (many : ℕ) (c : Contents) → Valid many c → Valid many (record { order = c .order; entries = without key (c .entries) })
+  pub without-valid : (many : ℕ) (c : Contents) → Valid many c → Valid many (record { order = c .order; salt = c .salt; entries = without key (c .entries) })
   without-valid many c valid =
       record {
         order-right = valid .order-right;
+        salt-right = valid .salt-right;
         keys-right = subst (All IsKey) (sym (without-keys key (c .entries))) (all-keep IsKey (λ k. not (eqb k key)) (keysIn c) (valid .keys-right));
         keys-rise = subst Rising (sym (without-keys key (c .entries))) (pairwise-keep _<_ (λ k. not (eqb k key)) (keysIn c) (valid .keys-rise));
         keys-fit = omega (arith, valid .keys-fit, ap length (without-keys key (c .entries)), length-keep (λ k. not (eqb k key)) (keysIn c));

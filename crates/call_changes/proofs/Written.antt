@@ -3,9 +3,8 @@ use mathlib.Core.Bool.{true}
 use mathlib.Core.List.{List}
 use mathlib.Core.Path.{_≡_, sym, ap, _∙_, subst}
 use Prim.Native.Nat.{ℕ, _≤_}
-use Rattle.priority.specs.Priority.{priorityOf}
 use Rattle.treap.specs.Levels.{rank}
-use Rattle.table.specs.Contents.{Contents, Valid, keysIn}
+use Rattle.table.specs.Contents.{Contents, Valid, keysIn, priorityIn}
 use Rattle.table.specs.Table.{fresh, contentsOf}
 use Rattle.table.specs.Sound.{soundWith}
 use Rattle.table.proofs.Reading.{contents-of-fresh}
@@ -20,6 +19,6 @@ module _ (many : ℕ) (c : Contents) (some : 1 ≤ many) (valid : Valid many c) 
   shows = ap (contentsOf many) written ∙ contents-of-fresh many c some valid
 
 -- a rank read where the table shows this
-pub ranked : (n : ℕ) (shown c : Contents) (key : ℕ) → n ≡ rank (shown .order) priorityOf (keysIn shown) key → shown ≡ c → n ≡ rankIn c key
+pub ranked : (n : ℕ) (shown c : Contents) (key : ℕ) → n ≡ rank (shown .order) (priorityIn shown) (keysIn shown) key → shown ≡ c → n ≡ rankIn c key
 unfolding rankIn
-ranked n shown c key e f = e ∙ ap (λ (d : Contents). rank (d .order) priorityOf (keysIn d) key) f
+ranked n shown c key e f = e ∙ ap (λ (d : Contents). rank (d .order) (priorityIn d) (keysIn d) key) f

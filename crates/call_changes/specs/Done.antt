@@ -7,6 +7,6 @@ use Rattle.call_sets.specs.Load.{Operation, done}
 abbrev pub IsLoadKey : ℕ → Type 0
 IsLoadKey key = (1 ≤ key) × (key ≤ 512)
 
--- The order and the set of a table, with what the operation makes of the set.
+-- The order, the salt and the set of a table, with what the operation makes of the set.
 abbrev pub withDone : ℕ → Operation → Contents → Contents
-withDone many operation c = record { order = c .order; entries = done many operation (c .entries) }
+withDone many operation c = record { order = c .order; salt = c .salt; entries = done many operation (c .entries) }

@@ -27,6 +27,6 @@ RoomFor key many words keys =
     member key (keysIn (contentsOf many words)) ≡ false → length (keysIn (contentsOf many words)) < many
     → length (keysIn (contentsOf many words)) < length keys
 
--- The order that a table of so many slots shows, with these entries.
+-- The order and the salt that a table of so many slots shows, with these entries.
 abbrev pub withEntries : ℕ → List ℕ → List Entry → Contents
-withEntries many words entries = record { order = contentsOf many words .order; entries = entries }
+withEntries many words entries = record { order = contentsOf many words .order; salt = contentsOf many words .salt; entries = entries }

@@ -12,6 +12,7 @@ ghost use Rattle.table.specs.Sound.{soundWith};
 ghost use Rattle.call_changes.specs.Known.{Known, withEntries};
 use priority::CONSTANT_COUNT;
 use table::ORDER_WORD;
+use table::SALT_WORD;
 use table_examine::Verdict;
 
 // Whether a table of `many` slots is sound; where it is, its keys, rising, are then at the start of `keys`, and the tags of their measures at
@@ -36,7 +37,7 @@ pub fn know(
     }
 }
 
-// Write the table of the order that it shows and of the first `n` of `keys` with the measures of the tags beside them; it is then known to be
+// Write the table of the order and the salt that it shows and of the first `n` of `keys` with the measures of the tags beside them; it is then known to be
 // sound. Internal to this library's crates: they lend the constants of the priorities.
 pub fn rewrite(
     table: &mut [u64],
@@ -52,5 +53,6 @@ pub fn rewrite(
     ensures { λ _. ⌜ Known many (now (table .exit)) (now (keys .entry)) (now (tags .entry)) ⌝ }
 {
     let order = table[ORDER_WORD];
-    table_write::write(order, &keys[..n], &tags[..n], many, table, constants);
+    let salt = table[SALT_WORD];
+    table_write::write(order, &keys[..n], &tags[..n], many, table, constants, salt);
 }

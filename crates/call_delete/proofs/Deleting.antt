@@ -9,9 +9,8 @@ use lib.Dec.{eqb}
 use lib.ListN.{length, getD, take, length-map}
 use borrow.Author.Tests.{eq-eqb, ne-eqb}
 use Rattle.lists.specs.Lists.{member}
-use Rattle.priority.specs.Priority.{priorityOf}
 use Rattle.treap.specs.Levels.{rank}
-use Rattle.table.specs.Contents.{Entry, Contents, keysIn, Valid}
+use Rattle.table.specs.Contents.{Entry, Contents, keysIn, priorityIn, Valid}
 use Rattle.table.specs.Tags.{entriesTagged, Beside}
 use Rattle.table.specs.Layout.{mostSlots, sizeWord, tableWords}
 use Rattle.table.specs.Table.{fresh, contentsOf}
@@ -130,7 +129,7 @@ module _ {many : ℕ} {words keys tags : List ℕ} (told : Facts many words keys
           (made-valid many words made left-right keys′ tags′ (count - 1) same-keys same-tags, made-beside many words made left-right keys′ tags′ (count - 1) same-keys same-tags)
 
       pub leaves-without : (after : List ℕ) → after ≡ fresh many (withEntries many words (entriesTagged (take (count - 1) keys′) (take (count - 1) tags′)))
-          → Known many after keys′ tags′ → (n : ℕ) → n ≡ rank (contentsOf many words .order) priorityOf held-keys key → Leaves (Rank n) after keys′ tags′
+          → Known many after keys′ tags′ → (n : ℕ) → n ≡ rank (contentsOf many words .order) (priorityIn (contentsOf many words)) held-keys key → Leaves (Rank n) after keys′ tags′
       leaves-without after written known n e =
           let k = told .known in
           let its-rank = ranked n (contentsOf many words) (contentsOf many words) key e refl in

@@ -28,7 +28,7 @@ pub fn delete_known(
     ensures { λ _. ⌜ now (table .exit) ≡ deleteAfter (now (table .entry)) key ⌝ }
     ensures { λ _. ⌜ Known many (now (table .exit)) (now (keys .exit)) (now (tags .exit)) ⌝ }
 {
-    let priority = priority::priority_from(constants, key);
+    let priority = table_entries::priority_of(table, many, key, constants);
     if !table_entries::holds(table, many, key, priority) {
         return Deleted::Refused(Refusal::KeyAbsent);
     }

@@ -1,4 +1,4 @@
--- The image of a table as it is written from the order word, the keys and their tags, and what a writing of it meets. Assumes nothing.
+-- The image of a table as it is written from the order word, the salt word, the keys and their tags, and what a writing of it meets. Assumes nothing.
 use mathlib.Core.Bool.{true, cond}
 use mathlib.Core.List.{List}
 use mathlib.Core.Path.{_≡_, sym, ap, _∙_}
@@ -9,7 +9,7 @@ use borrow.Author.Tests.{le-leb, lt-leb}
 use Rattle.lists.specs.Lists.{overwrite}
 use Rattle.table.specs.Contents.{Entry, keysIn}
 use Rattle.table.specs.Tags.{tagsIn, tagged}
-use Rattle.table.specs.Layout.{mostSlots, tableWords, orderWord}
+use Rattle.table.specs.Layout.{mostSlots, tableWords, orderWord, saltWord}
 use Rattle.table.specs.Table.{contentsOf}
 use Rattle.table.specs.Sound.{soundWith}
 use Rattle.table.proofs.Tagged.{tagged-is}
@@ -30,12 +30,12 @@ module _ (words output : List ℕ) (many : ℕ) (some : 0 < many) (most : many �
   Meets answer after = (writtenOf answer ≡ writeReply words output) × (after ≡ writeOutput words output)
 
   abbrev drawn : List ℕ
-  drawn = imageOf (tagged (getD words orderWord 0) keys tags)
+  drawn = imageOf (tagged (getD words orderWord 0) (getD words saltWord 0) keys tags)
 
   image-shown : imageOf (contentsOf many words) ≡ drawn
   unfolding contentsOf
   image-shown =
-      ap (λ (es : List Entry). imageOf (record { order = getD words orderWord 0; entries = es }))
+      ap (λ (es : List Entry). imageOf (record { order = getD words orderWord 0; salt = getD words saltWord 0; entries = es }))
       (sym (tagged-is (contentsOf many words .entries) (sound-measures many words sound) found beside))
 
   module _ (n : ℕ) (size : n ≡ length drawn) (after : List ℕ) (wrote : after ≡ writtenTo output drawn) where

@@ -15,6 +15,7 @@ use image::ORDER_BYTES;
 use image_recognize::Recognized;
 use priority::CONSTANT_COUNT;
 use table::ORDER_WORD;
+use table::SALT_WORD;
 use table_examine::Verdict;
 
 // Write the image of a table of `many` slots, with `keys` and `tags` to work in.
@@ -31,11 +32,12 @@ fn write_in(
     ensures { λ _. ⌜ now (output .exit) ≡ writeOutput (now (table .entry)) (now (output .entry)) ⌝ }
 {
     let order = table[ORDER_WORD];
+    let salt = table[SALT_WORD];
     let found = table_examine::examine(table, many, keys, tags, constants);
     let Verdict::Sound(n) = found else {
         return Written::Refused(Refusal::NotSound);
     };
-    let size = image_write::write(order, &keys[..n], &tags[..n], output, constants);
+    let size = image_write::write(order, &keys[..n], &tags[..n], output, constants, salt);
     if output.len() < size {
         return Written::Refused(Refusal::OutputTooShort);
     }
@@ -86,8 +88,9 @@ fn read_in(
     if many < n {
         return ReadBack::Refused(Refusal::TooManyKeys);
     }
+    let salt = image_collect::salt_shown(image);
     let order = image_fields::get(image, ORDER_AT, ORDER_BYTES);
-    table_write::write(order, &keys[..n], &tags[..n], many, table, constants);
+    table_write::write(order, &keys[..n], &tags[..n], many, table, constants, salt);
     ReadBack::Done
 }
 

@@ -12,9 +12,8 @@ use Rattle.lists.specs.Lists.{member}
 use Rattle.measure.specs.Measure.{Measure, isMeasure}
 use Rattle.measure.specs.Tag.{measureAt, isTag}
 use Rattle.measure.proofs.Tags.{tag-measures}
-use Rattle.priority.specs.Priority.{priorityOf}
 use Rattle.treap.specs.Levels.{rank}
-use Rattle.table.specs.Contents.{Entry, Contents, keysIn, IsKey, Valid}
+use Rattle.table.specs.Contents.{Entry, Contents, keysIn, priorityIn, IsKey, Valid}
 use Rattle.table.specs.Tags.{entriesTagged, Beside}
 use Rattle.table.specs.Layout.{mostSlots, sizeWord, tableWords}
 use Rattle.table.specs.Table.{fresh, contentsOf}
@@ -88,7 +87,7 @@ module _ (words : List ℕ) (key : ℕ) (measure : Measure) where
       module _ (absent : member key (keysIn (contentsOf many words)) ≡ false) where
         grown-is : grown words key measure ≡ withKey many words entry
         unfolding grown
-        grown-is = ap (λ (c : Contents). record { order = c .order; entries = joined entry (c .entries) }) (shown-is words many some most long)
+        grown-is = ap (λ (c : Contents). record { order = c .order; salt = c .salt; entries = joined entry (c .entries) }) (shown-is words many some most long)
 
         size : length (keysIn (grown words key measure)) ≡ suc (length (keysIn (contentsOf many words)))
         size =
@@ -184,7 +183,11 @@ module _ {many : ℕ} {words keys tags : List ℕ} (told : Facts many words keys
           pub then-held : member key (keysIn (contentsOf many after)) ≡ true
           then-held = ap (λ (c : Contents). member key (keysIn c)) shows-joined ∙ joined-member new (contentsOf many words .entries)
 
-          pub leaves-joined : Known many after keys′ tags′ → (n : ℕ) → n ≡ rank (contentsOf many after .order) priorityOf (keysIn (contentsOf many after)) key
+          -- the salt stayed, and so did the key's priority
+          pub same-priority : (priority : ℕ) → priority ≡ priorityIn (contentsOf many words) key → priority ≡ priorityIn (contentsOf many after) key
+          same-priority priority e = e ∙ ap (λ (c : Contents). priorityIn c key) (sym shows-joined)
+
+          pub leaves-joined : Known many after keys′ tags′ → (n : ℕ) → n ≡ rank (contentsOf many after .order) (priorityIn (contentsOf many after)) (keysIn (contentsOf many after)) key
               → Leaves (Rank n) after keys′ tags′
           leaves-joined known n e =
               let k = told .known in

@@ -32,7 +32,7 @@ pub fn insert_known(
     ensures { λ _. ⌜ now (table .exit) ≡ insertAfter (now (table .entry)) key (measureAt tag) ⌝ }
     ensures { λ _. ⌜ Known many (now (table .exit)) (now (keys .exit)) (now (tags .exit)) ⌝ }
 {
-    let priority = priority::priority_from(constants, key);
+    let priority = table_entries::priority_of(table, many, key, constants);
     if table_entries::holds(table, many, key, priority) {
         return Inserted::Refused(Refusal::KeyHeld);
     }

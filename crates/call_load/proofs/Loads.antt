@@ -26,7 +26,7 @@ use Rattle.call_changes.proofs.Loading.{blank-valid}
 
 module _ (words : List ℕ) (order seed count : ℕ) where
   -- a refused set-up is a refused load
-  pub refused : (reason : Refusal) → setUpOf (set-up.Refused reason) ≡ setUpReply words order → (after : List ℕ) → after ≡ setUpAfter words order
+  pub refused : (reason : Refusal) → setUpOf (set-up.Refused reason) ≡ setUpReply words order → (after : List ℕ) → after ≡ setUpAfter words order 0
       → (loadedOf (load.Refused reason) ≡ loadReply words order) × (after ≡ loadAfter words order seed count)
   unfolding setUpReply setUpAfter setUpRefusal loadReply loadAfter loadRefusal
   refused reason e after left =
@@ -41,17 +41,17 @@ module _ (words : List ℕ) (order seed count : ℕ) where
     pub most : many ≤ mostSlots
     pub long : length after ≡ tableWords many
     pub sound : soundWith many after ≡ true
-    pub holds : contentsOf many after ≡ record { order = order; entries = [] }
+    pub holds : contentsOf many after ≡ record { order = order; salt = 0; entries = [] }
 
   pub begun : setUpOf set-up.Done ≡ setUpReply words order → (many : ℕ) → many ≡ slotsFor (length words) → (after : List ℕ)
-      → after ≡ setUpAfter words order → Begun many after
+      → after ≡ setUpAfter words order 0 → Begun many after
   unfolding setUpReply setUpAfter setUpRefusal loadRefusal wrongLength wrongOrder rewritten
   begun e many here after left =
       let accepted : loadRefusal words order ≡ 0 = sym (ap (λ (r : Reply). r .refusal) e) in
       let spared = none-applies (wrongLength words ∷ wrongOrder order ∷ []) (omega arith) accepted in
       let right = slots-for-some (length words) (eqb-false (slotsFor (length words)) 0 (spared .0)) in
-      let blank : Contents = record { order = order; entries = [] } in
-      let valid : Valid many blank = blank-valid many order (not-false (newOrder order) (spared .1 .0)) in
+      let blank : Contents = record { order = order; salt = 0; entries = [] } in
+      let valid : Valid many blank = blank-valid many order 0 (not-false (newOrder order) (spared .1 .0)) (omega arith) in
       let some : 0 < many = omega (arith, right .some) in
       let written : after ≡ fresh many blank = left ∙ rw accepted (ap (λ (n : ℕ). fresh n blank) (sym here)) in
       record {
@@ -66,10 +66,10 @@ module _ (words : List ℕ) (order seed count : ℕ) where
 
   -- the operations done
   pub done-so : (many : ℕ) (after : List ℕ) → Begun many after → (last : List ℕ)
-      → last ≡ fresh many (record { order = contentsOf many after .order; entries = loaded many seed count })
+      → last ≡ fresh many (record { order = contentsOf many after .order; salt = contentsOf many after .salt; entries = loaded many seed count })
       → (loadedOf load.Done ≡ loadReply words order) × (last ≡ loadAfter words order seed count)
   unfolding loadReply loadAfter rewritten
   done-so many after b last e = (
     rw (b .accepted),
-    rw (b .accepted, b .slots) (e ∙ ap (λ (c : Contents). fresh many (record { order = c .order; entries = loaded many seed count })) (b .holds)),
+    rw (b .accepted, b .slots) (e ∙ ap (λ (c : Contents). fresh many (record { order = c .order; salt = c .salt; entries = loaded many seed count })) (b .holds)),
   )

@@ -19,11 +19,12 @@ use Rattle.call_changes.specs.Known.{Known}
 use Rattle.call_changes.specs.Done.{IsLoadKey, withDone}
 use Rattle.call_changes.proofs.Loading.{chosen-key, done-all}
 
--- Between two operations: the table is known, its keys are a load's, and its order is the one that it was set up with.
+-- Between two operations: the table is known, its keys are a load's, and its order and its salt are those that it was set up with.
 pub record Under (many : ℕ) (first : List ℕ) (seed count : ℕ) (words keys tags : List ℕ) (state left : ℕ) : Type 0 where
   pub known : Known many words keys tags
   pub ours : All IsLoadKey (keysIn (contentsOf many words))
   pub ordered : contentsOf many words .order ≡ contentsOf many first .order
+  pub salted : contentsOf many words .salt ≡ contentsOf many first .salt
   pub rest : doneAll many (operations state left) (contentsOf many words .entries) ≡ loaded many seed count
   pub room : 512 ≤ length keys
   pub more : 512 ≤ length tags
@@ -49,6 +50,7 @@ module _ (many : ℕ) (first : List ℕ) (seed count : ℕ) where
             };
         ours = subst (λ (es : List Entry). All IsLoadKey (entryKeys es)) (sym blank) tt;
         ordered = refl;
+        salted = refl;
         rest = ap (doneAll many (operations seed count)) blank;
         room = room;
         more = more;
@@ -68,6 +70,7 @@ module _ (many : ℕ) (first : List ℕ) (seed count : ℕ) where
               (subst (All (λ e. IsLoadKey (e .key))) (sym same)
               (done-all (λ e. IsLoadKey (e .key)) many (chosen stepped) set (chosen-key stepped) (all-unmapped set (under .ours))));
           ordered = ap (λ (c : Contents). c .order) e ∙ under .ordered;
+          salted = ap (λ (c : Contents). c .salt) e ∙ under .salted;
           rest =
               ap (doneAll many (operations stepped (left - 1))) same
               ∙ ap (λ (s : ℕ). doneAll many (operations s (left - 1)) (done many (chosen s) set)) steps
@@ -77,10 +80,10 @@ module _ (many : ℕ) (first : List ℕ) (seed count : ℕ) where
           more = omega (arith, under .more);
         }
 
-    pub under-all : left ≤ 0 → words ≡ fresh many (record { order = contentsOf many first .order; entries = loaded many seed count })
+    pub under-all : left ≤ 0 → words ≡ fresh many (record { order = contentsOf many first .order; salt = contentsOf many first .salt; entries = loaded many seed count })
     under-all none =
         let ended : left ≡ 0 = omega arith in
         let set : contentsOf many words .entries ≡ loaded many seed count =
         sym (ap (λ (n : ℕ). doneAll many (operations state n) (contentsOf many words .entries)) ended) ∙ under .rest
         in
-        sound-exactly many words (under .known .sound) ∙ (λ i. fresh many (record { order = under .ordered i; entries = set i }))
+        sound-exactly many words (under .known .sound) ∙ (λ i. fresh many (record { order = under .ordered i; salt = under .salted i; entries = set i }))

@@ -23,6 +23,9 @@ use priority::CONSTANT_COUNT;
 // The keys are 1 to this.
 const KEY_COUNT: usize = 512;
 
+// The salt of a load's table.
+const LOAD_SALT: u64 = 0;
+
 // A state divided by 2^32 gives the key, divided by 2^62 the choice.
 const KEY_DIVISOR: u64 = 4294967296;
 
@@ -71,7 +74,7 @@ fn operate_all(
 )
     requires { ⌜ (0 < many) × (many ≤ mostSlots) × (length (now table) ≡ tableWords many) × (soundWith many (now table) ≡ true) ⌝ }
     requires { ⌜ (contentsOf many (now table) .entries ≡ []) × (512 ≤ length (now keys)) × (512 ≤ length (now tags)) × HoldsConstants (now constants) ⌝ }
-    ensures { λ _. ⌜ now (table .exit) ≡ fresh many (record { order = contentsOf many (now (table .entry)) .order; entries = loaded many seed count }) ⌝ }
+    ensures { λ _. ⌜ now (table .exit) ≡ fresh many (record { order = contentsOf many (now (table .entry)) .order; salt = contentsOf many (now (table .entry)) .salt; entries = loaded many seed count }) ⌝ }
 {
     let mut state = seed;
     let mut left = count;
@@ -87,7 +90,7 @@ fn operate_all(
 fn operate_within(table: &mut [u64], many: usize, seed: u64, count: u16)
     requires { ⌜ (0 < many) × (many ≤ mostSlots) × (length (now table) ≡ tableWords many) × (soundWith many (now table) ≡ true) ⌝ }
     requires { ⌜ contentsOf many (now table) .entries ≡ [] ⌝ }
-    ensures { λ _. ⌜ now (table .exit) ≡ fresh many (record { order = contentsOf many (now (table .entry)) .order; entries = loaded many seed count }) ⌝ }
+    ensures { λ _. ⌜ now (table .exit) ≡ fresh many (record { order = contentsOf many (now (table .entry)) .order; salt = contentsOf many (now (table .entry)) .salt; entries = loaded many seed count }) ⌝ }
 {
     let mut keys = [0u64; KEY_COUNT];
     let mut tags = [0u64; KEY_COUNT];
@@ -95,13 +98,13 @@ fn operate_within(table: &mut [u64], many: usize, seed: u64, count: u16)
     operate_all(table, many, seed, count, &mut keys, &mut tags, &constants);
 }
 
-// Make of any words of a right length the table of an order and of the keys that `count` operations after a seed leave. Refusals: 1, 2.
+// Make of any words of a right length the table of an order, of salt zero and of the keys that `count` operations after a seed leave. Refusals: 1, 2.
 pub fn load(table: &mut [u64], order: u64, seed: u64, count: u16) -> Loaded
     ensures { λ r. ⌜ loadedOf r ≡ loadReply (now (table .entry)) order ⌝ }
     ensures { λ _. ⌜ now (table .exit) ≡ loadAfter (now (table .entry)) order seed count ⌝ }
 {
     let many = table_limits::slots_for(table.len());
-    let begun = call_build::set_up(table, order);
+    let begun = call_build::set_up(table, order, LOAD_SALT);
     if let SetUp::Refused(reason) = begun {
         return Loaded::Refused(reason);
     }

@@ -13,13 +13,13 @@ use Rattle.lists.specs.Lists.{member, All, Rising}
 use Rattle.lists.proofs.Tests.{by-test}
 use Rattle.lists.proofs.Keep.{all-map}
 use Rattle.lists.proofs.Membership.{all-member}
-use Rattle.priority.specs.Priority.{priorityOf}
+use Rattle.priority.specs.Priority.{priorityWith}
 use Rattle.treap.specs.Blocks.{rootRank, blocksMet}
 use Rattle.treap_ceilings.specs.Ceiling.{rankCeiling, blocksCeiling}
 use Rattle.treap_ceilings.specs.Claims.{WorstKeys, Ceilings}
 use Rattle.treap_ceilings.proofs.Claims.{ceilings-hold}
 use Rattle.table.specs.Layout.{mostSlots}
-use Rattle.table.specs.Contents.{Contents, keysIn, entriesWith, tableOrder, IsKey, Valid}
+use Rattle.table.specs.Contents.{Contents, keysIn, priorityIn, entriesWith, tableOrder, IsKey, Valid, IsSalt}
 use Rattle.table.specs.Table.{fresh, Sound}
 use Rattle.table.proofs.Orders.{order-wide}
 use Rattle.table.proofs.Entries.{with-keys, with-right}
@@ -39,11 +39,11 @@ module _ (words : List ℕ) (sound : isSound words ≡ true) where
   abbrev rise : Rising (keysIn c)
   rise = shown-rises words sound
 
-  abbrev promised : Ceilings (c .order) priorityOf
-  promised = ceilings-hold .every-order (c .order) (shown-wide words sound) priorityOf
+  abbrev promised : Ceilings (c .order) (priorityIn c)
+  promised = ceilings-hold .every-order (c .order) (shown-wide words sound) (priorityIn c)
 
   -- what a search meets at most, a lookup tells at most
-  told-at-most : (key most : ℕ) → blocksMet (c .order) priorityOf (keysIn c) key ≤ most → blocksTold (lookupReply words key) ≤ most
+  told-at-most : (key most : ℕ) → blocksMet (c .order) (priorityIn c) (keysIn c) key ≤ most → blocksTold (lookupReply words key) ≤ most
   told-at-most key most h =
       by-test (eqb key 0)
       (λ e. omega (arith, told-none words sound key (eqb-true key 0 e)))
@@ -52,7 +52,7 @@ module _ (words : List ℕ) (sound : isSound words ≡ true) where
   empty-meets : keyCount c ≡ 0 → (key : ℕ) → blocksTold (lookupReply words key) ≡ 0
   empty-meets none key = omega (arith, told-at-most key 0 (go (keysIn c) none))
     where
-      go : (ks : List ℕ) → length ks ≡ 0 → blocksMet (c .order) priorityOf ks key ≤ 0
+      go : (ks : List ℕ) → length ks ≡ 0 → blocksMet (c .order) (priorityIn c) ks key ≤ 0
       go [] e = omega (arith, promised .no-key key)
       go (k ∷ ks) e = absurd (omega arith)
 
@@ -77,12 +77,12 @@ unfolding lookupReply
 in-accepted words key accepted = in-shown words (accepted-sound words key accepted)
 
 -- ---- a table of the worst keys
-module _ (order n : ℕ) (right : tableOrder order ≡ true) (some : 1 ≤ n) (most : n ≤ mostSlots) where
-  worst : WorstKeys order priorityOf n
-  worst = ceilings-hold .every-order order (order-wide order right) priorityOf .reached n some
+module _ (order salt n : ℕ) (right : tableOrder order ≡ true) (fits : IsSalt salt) (some : 1 ≤ n) (most : n ≤ mostSlots) where
+  worst : WorstKeys order (priorityWith salt) n
+  worst = ceilings-hold .every-order order (order-wide order right) (priorityWith salt) .reached n some
 
   contents : Contents
-  contents = record { order = order; entries = entriesWith (worst .keys) [] }
+  contents = record { order = order; salt = salt; entries = entriesWith (worst .keys) [] }
 
   keys-are : keysIn contents ≡ worst .keys
   unfolding contents
@@ -95,6 +95,7 @@ module _ (order n : ℕ) (right : tableOrder order ≡ true) (some : 1 ≤ n) (m
       let square = mul-le-mul most most in
       record {
         order-right = right;
+        salt-right = fits;
         keys-right =
             subst (All IsKey) (sym keys-are)
             (all-map (λ k. (1 ≤ k) × (k ≤ n * n)) IsKey (λ k h. omega arith) (worst .keys) (worst .small));
@@ -106,7 +107,7 @@ module _ (order n : ℕ) (right : tableOrder order ≡ true) (some : 1 ≤ n) (m
   worst-sound : Sound (fresh n contents)
   worst-sound = record { many = n; contents = contents; some = some; most = most; valid = worst-valid; exactly = refl }
 
-  worst-table : WorstTable order n
+  worst-table : WorstTable order salt n
   unfolding contents worst-sound
   worst-table =
       let reach = worst .reach in
@@ -116,16 +117,17 @@ module _ (order n : ℕ) (right : tableOrder order ≡ true) (some : 1 ≤ n) (m
         words = fresh n contents;
         sound = worst-sound;
         of-order = refl;
+        of-salt = refl;
         of-keys = ap length keys-are ∙ many;
-        root = ap (rootRank order priorityOf) keys-are ∙ reach .root ∙ ap (rankCeiling order) many;
+        root = ap (rootRank order (priorityWith salt)) keys-are ∙ reach .root ∙ ap (rankCeiling order) many;
         key = reach .sought;
         held = ap (member (reach .sought)) keys-are ∙ reach .held;
         accepted = in-table (fresh n contents) worst-sound .accepted (reach .sought) positive;
         met =
             in-table (fresh n contents) worst-sound .told (reach .sought) positive
-            ∙ ap (λ (ks : List ℕ). blocksMet order priorityOf ks (reach .sought)) keys-are
+            ∙ ap (λ (ks : List ℕ). blocksMet order (priorityWith salt) ks (reach .sought)) keys-are
             ∙ reach .met
-            ∙ ap₂ (blocksCeiling order) many (sym (ap (rootRank order priorityOf) keys-are));
+            ∙ ap₂ (blocksCeiling order) many (sym (ap (rootRank order (priorityWith salt)) keys-are));
       }
 
 pub lookup-ceiling-holds : LookupCeiling

@@ -9,9 +9,8 @@ use lib.ListN.{length}
 use borrow.Author.Tests.{eq-eqb, ne-eqb}
 use Rattle.lists.specs.Lists.{member}
 use Rattle.lists.proofs.Tests.{by-test}
-use Rattle.priority.specs.Priority.{priorityOf}
 use Rattle.treap.specs.Blocks.{blocksMet}
-use Rattle.table.specs.Contents.{Contents, keysIn, measureIn}
+use Rattle.table.specs.Contents.{Contents, keysIn, priorityIn, measureIn}
 use Rattle.table.specs.Table.{contentsOf}
 use Rattle.table.proofs.Entries.{not-found}
 use Rattle.table_limits.specs.Lengths.{slotsFor}
@@ -34,7 +33,7 @@ answered (looked.Absent blocks) = Absent blocks
 -- What an accepted lookup gives.
 abbrev accepts : Contents → ℕ → Reply
 accepts c key =
-    record { refusal = 0; numbers = standingIn c key ++ (blocksMet (c .order) priorityOf (keysIn c) key ∷ measureIn (c .entries) key .length ∷ []) }
+    record { refusal = 0; numbers = standingIn c key ++ (blocksMet (c .order) (priorityIn c) (keysIn c) key ∷ measureIn (c .entries) key .length ∷ []) }
 
 answer-is : (c : Contents) (key : ℕ) → lookedUpOf (answered (lookedUp c key)) ≡ accepts c key
 unfolding lookedUp standingOf standingIn rankIn

@@ -8,9 +8,8 @@ use lib.ListN.{length}
 use borrow.Author.Tests.{eq-eqb, ne-eqb}
 use Rattle.lists.specs.Lists.{member}
 use Rattle.lists.proofs.Tests.{by-test}
-use Rattle.priority.specs.Priority.{priorityOf}
 use Rattle.treap.specs.Blocks.{blocksMet}
-use Rattle.table.specs.Contents.{keysIn}
+use Rattle.table.specs.Contents.{keysIn, priorityIn}
 use Rattle.table_limits.specs.Lengths.{slotsFor}
 use Rattle.table_judge.specs.Judge.{isSound}
 use Rattle.table_judge.proofs.Decides.{some-slots}
@@ -23,7 +22,7 @@ module _ (words : List ℕ) (sound : isSound words ≡ true) (key : ℕ) where
   unfolding lookupReply
   any-accepted positive = lookup-accepted words sound key positive
 
-  pub told-met : key ≢ 0 → blocksTold (lookupReply words key) ≡ blocksMet (shown words .order) priorityOf (keysIn (shown words)) key
+  pub told-met : key ≢ 0 → blocksTold (lookupReply words key) ≡ blocksMet (shown words .order) (priorityIn (shown words)) (keysIn (shown words)) key
   unfolding lookupReply standingIn blocksTold
   told-met positive =
       rw (lookup-accepted words sound key positive)

@@ -6,10 +6,9 @@ use lib.IntN.{ℤ, pos}
 use lib.ListN.{length, getD}
 use Rattle.lists.specs.Lists.{member, overwrite}
 use Rattle.measure.specs.Measure.{Measure, measuresBeside}
-use Rattle.priority.specs.Priority.{priorityOf}
 use Rattle.treap.specs.Levels.{rank, count, leader}
 use Rattle.treap.specs.Blocks.{blocksMet}
-use Rattle.table.specs.Contents.{Contents, keysIn, measureIn, entriesWith}
+use Rattle.table.specs.Contents.{Contents, keysIn, priorityIn, measureIn, entriesWith}
 use Rattle.table.specs.Table.{fresh}
 use Rattle.image.specs.Image.{imageOf, readImage}
 use Rattle.call_sets.specs.Sets.{joined, without}
@@ -19,24 +18,25 @@ use Rattle.intervals.specs.Intervals.{within}
 use Rattle.call_replies.specs.Replies.{Reply, firstThatApplies, unlessRefused}
 use Rattle.call_meaning.specs.Reasons.{wrongLength, wrongOrder, zeroKey, lowAboveHigh, notRising, notAnImage, notSound, keyHeld, keyAbsent, tooManyKeys, outputTooShort, wrongMeasure, wrongMeasures, shown}
 
--- The table of an order and a set, of so many slots as the words have.
+-- The table of an order, a salt and a set, of so many slots as the words have.
 unfoldable pub rewritten : List ℕ → Contents → List ℕ
 rewritten words c = fresh (slotsFor (length words)) c
 
--- A key's rank among those of an order and a set.
+-- A key's rank among those of an order, a salt and a set.
 unfoldable pub rankIn : Contents → ℕ → ℕ
-rankIn c key = rank (c .order) priorityOf (keysIn c) key
+rankIn c key = rank (c .order) (priorityIn c) (keysIn c) key
 
--- "Set-up uses 1, 2."
+-- "Set-up uses 1, 2"; the salt, "chosen at set-up or build" (02, N9), is any 64-bit number, so that no reason is about it.
 unfoldable pub setUpRefusal : List ℕ → ℕ → ℕ
 setUpRefusal words order = firstThatApplies (wrongLength words ∷ wrongOrder order ∷ [])
 
 unfoldable pub setUpReply : List ℕ → ℕ → Reply
 setUpReply words order = record { refusal = setUpRefusal words order; numbers = [] }
 
--- "Set-up writes a blank table."
-unfoldable pub setUpAfter : List ℕ → ℕ → List ℕ
-setUpAfter words order = unlessRefused (setUpRefusal words order) (rewritten words (record { order = order; entries = [] })) words
+-- "Set-up writes a blank table", with its salt.
+unfoldable pub setUpAfter : List ℕ → ℕ → ℕ → List ℕ
+setUpAfter words order salt =
+    unlessRefused (setUpRefusal words order) (rewritten words (record { order = order; salt = salt; entries = [] })) words
 
 -- A load: "Errors: the checks are 1, 2."
 unfoldable pub loadRefusal : List ℕ → ℕ → ℕ
@@ -46,11 +46,11 @@ unfoldable pub loadReply : List ℕ → ℕ → Reply
 loadReply words order = record { refusal = loadRefusal words order; numbers = [] }
 
 -- "A load sets up the table with a given order, then does 0 to 65,535 operations .. The end set must equal what these rules give
--- without the treap."
+-- without the treap" (02, N1); "loads use salt zero" (02, N9).
 unfoldable pub loadAfter : List ℕ → ℕ → ℕ → ℕ → List ℕ
 loadAfter words order seed count =
     unlessRefused (loadRefusal words order)
-    (rewritten words (record { order = order; entries = loaded (slotsFor (length words)) seed count }))
+    (rewritten words (record { order = order; salt = 0; entries = loaded (slotsFor (length words)) seed count }))
     words
 
 -- "Build 1, 2, 5, 10"; 12 is "checked straight after 5". A list of keys, and beside it their lengths and corrections.
@@ -68,18 +68,23 @@ unfoldable pub buildReply : List ℕ → ℕ → List ℕ → List ℕ → List 
 buildReply words order list lengths corrections = record { refusal = buildRefusal words order list lengths corrections; numbers = [] }
 
 -- "An accepted build writes it, whatever the lent words held."
-unfoldable pub buildAfter : List ℕ → ℕ → List ℕ → List ℕ → List ℤ → List ℕ
-buildAfter words order list lengths corrections =
+unfoldable pub buildAfter : List ℕ → ℕ → ℕ → List ℕ → List ℕ → List ℤ → List ℕ
+buildAfter words order salt list lengths corrections =
     unlessRefused (buildRefusal words order list lengths corrections)
-    (rewritten words (record { order = order; entries = entriesWith list (measuresBeside lengths corrections) }))
+    (rewritten words (record { order = order; salt = salt; entries = entriesWith list (measuresBeside lengths corrections) }))
     words
 
--- The order and the set that the words show, with a key and its measure that join the set, and with a key that leaves it.
+-- The order, the salt and the set that the words show, with a key and its measure that join the set, and with a key that leaves it.
 unfoldable pub grown : List ℕ → ℕ → Measure → Contents
-grown words key measure = record { order = shown words .order; entries = joined (record { key = key; measure = measure }) (shown words .entries) }
+grown words key measure =
+    record {
+      order = shown words .order;
+      salt = shown words .salt;
+      entries = joined (record { key = key; measure = measure }) (shown words .entries);
+    }
 
 unfoldable pub shrunk : List ℕ → ℕ → Contents
-shrunk words key = record { order = shown words .order; entries = without key (shown words .entries) }
+shrunk words key = record { order = shown words .order; salt = shown words .salt; entries = without key (shown words .entries) }
 
 -- "Insert 1, 3, 7, 8, 10"; 12 is checked "on insert after 3".
 unfoldable pub insertRefusal : List ℕ → ℕ → Measure → ℕ
@@ -126,7 +131,7 @@ lookupRefusal words key = firstThatApplies (wrongLength words ∷ zeroKey key �
 unfoldable pub standingIn : Contents → ℕ → List ℕ
 standingIn c key =
     cond (member key (keysIn c))
-    (1 ∷ rankIn c key ∷ count (c .order) priorityOf (keysIn c) key ∷ leader (c .order) priorityOf (keysIn c) key ∷ [])
+    (1 ∷ rankIn c key ∷ count (c .order) (priorityIn c) (keysIn c) key ∷ leader (c .order) (priorityIn c) (keysIn c) key ∷ [])
     (0 ∷ 0 ∷ 0 ∷ 0 ∷ [])
 
 -- "It also gives the number of different blocks that hold the keys it compares on its way down" (01); and the measure, which "lookups
@@ -138,7 +143,7 @@ lookupReply words key =
       numbers =
           unlessRefused (lookupRefusal words key)
           (standingIn (shown words) key
-          ++ (blocksMet (shown words .order) priorityOf (keysIn (shown words)) key ∷ measureIn (shown words .entries) key .length ∷ []))
+          ++ (blocksMet (shown words .order) (priorityIn (shown words)) (keysIn (shown words)) key ∷ measureIn (shown words .entries) key .length ∷ []))
           (0 ∷ 0 ∷ 0 ∷ 0 ∷ 0 ∷ 0 ∷ []);
     }
 
@@ -209,6 +214,6 @@ readRefusal words bytes =
 unfoldable pub readReply : List ℕ → List ℕ → Reply
 readReply words bytes = record { refusal = readRefusal words bytes; numbers = [] }
 
--- The table for "the order and set whose image the bytes are".
+-- The table for "the order and set whose image the bytes are", and for the salt: "salt zero keeps `LH`", so that an `LH` image makes it zero.
 unfoldable pub readAfter : List ℕ → List ℕ → List ℕ
 readAfter words bytes = unlessRefused (readRefusal words bytes) (rewritten words (readImage bytes)) words

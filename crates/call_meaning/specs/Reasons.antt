@@ -14,11 +14,11 @@ use Rattle.table_limits.specs.Lengths.{slotsFor}
 use Rattle.table_judge.specs.Judge.{isSound}
 use Rattle.call_replies.specs.Replies.{Reason}
 
--- The order and the set that the words show.
+-- The order, the salt and the set that the words show.
 unfoldable pub shown : List ℕ → Contents
 shown words = contentsOf (slotsFor (length words)) words
 
--- "1. Table length is not 3 + 6·M" (01); it is 3 + 8·M (02, N4).
+-- "1. Table length is not 3 + 6·M" (01); "its length is 4 + 8·M" (02, N9).
 unfoldable pub wrongLength : List ℕ → Reason
 wrongLength words = record { number = 1; applies = eqb (slotsFor (length words)) 0 }
 

@@ -1,4 +1,4 @@
--- Pages of a set that goes as an order, keys and tags: what its lists show, and that a sound table holds such a set. Assumes nothing.
+-- Pages of a set that goes as an order, a salt, keys and tags: what its lists show, and that a sound table holds such a set. Assumes nothing.
 use mathlib.Core.Bool.{true}
 use mathlib.Core.List.{List, map}
 use mathlib.Core.Path.{_≡_, sym, ap, subst}
@@ -10,7 +10,7 @@ use Rattle.lists.proofs.Keep.{all-map, all-mapped}
 use Rattle.measure.specs.Measure.{isMeasure}
 use Rattle.measure.specs.Tag.{measureAt, isTag}
 use Rattle.measure.proofs.Tags.{tag-measures}
-use Rattle.table.specs.Layout.{mostSlots, orderWord}
+use Rattle.table.specs.Layout.{mostSlots, orderWord, saltWord}
 use Rattle.table.specs.Contents.{Contents, Entry, keysIn, rightMeasure}
 use Rattle.table.specs.Tags.{tagsIn, tagged, Beside}
 use Rattle.table.specs.Table.{contentsOf}
@@ -27,9 +27,9 @@ use Rattle.text_pages.proofs.Claims.{pages-length}
 use Rattle.text_pages.proofs.Shows.{printable, pages-shown}
 
 -- ---- what its lists show
-module _ (order : ℕ) {keys tags : List ℕ} (known : Keys order keys) (beside : Beside keys tags) {ranks counts leaders : List ℕ} (stands : StandingsOf order keys ranks counts leaders) where
+module _ (order salt : ℕ) {keys tags : List ℕ} (known : Keys order keys) (beside : Beside keys tags) {ranks counts leaders : List ℕ} (stands : StandingsOf order salt keys ranks counts leaders) where
   abbrev set : Contents
-  set = tagged order keys tags
+  set = tagged order salt keys tags
 
   same-keys : keys ≡ keysIn set
   same-keys = sym (tagged-keys keys tags)
@@ -42,8 +42,8 @@ module _ (order : ℕ) {keys tags : List ℕ} (known : Keys order keys) (beside 
       with-right keys (map measureAt tags)
       (all-mapped (λ m. isMeasure m ≡ true) measureAt tags (all-map (λ t. isTag t ≡ true) (λ t. isMeasure (measureAt t) ≡ true) tag-measures tags (beside .right)))
 
-  stands-here : StandingsOf order (keysIn set) ranks counts leaders
-  stands-here = subst (λ (ks : List ℕ). StandingsOf order ks ranks counts leaders) same-keys stands
+  stands-here : StandingsOf order salt (keysIn set) ranks counts leaders
+  stands-here = subst (λ (ks : List ℕ). StandingsOf order salt ks ranks counts leaders) same-keys stands
 
   pub lists-printable : Printable keys tags ranks counts leaders
   lists-printable = printable set few (subst Rising same-keys (known .rising)) right same-keys (sym (tagged-tags keys tags beside)) stands-here
@@ -57,8 +57,8 @@ module _ (many : ℕ) (words : List ℕ) (sound : soundWith many words ≡ true)
   text-length most = pages-length (contentsOf many words) (omega (arith, shown-fit many words)) (sound-measures many words sound)
 
   pub pages-tagged : {keys tags : List ℕ} → keys ≡ keysIn (contentsOf many words) → tags ≡ tagsIn (contentsOf many words)
-      → pagesOf (contentsOf many words) ≡ pagesOf (tagged (getD words orderWord 0) keys tags)
+      → pagesOf (contentsOf many words) ≡ pagesOf (tagged (getD words orderWord 0) (getD words saltWord 0) keys tags)
   unfolding contentsOf
   pages-tagged found beside =
-      ap (λ (es : List Entry). pagesOf (record { order = getD words orderWord 0; entries = es }))
+      ap (λ (es : List Entry). pagesOf (record { order = getD words orderWord 0; salt = getD words saltWord 0; entries = es }))
       (sym (tagged-is (contentsOf many words .entries) (sound-measures many words sound) found beside))

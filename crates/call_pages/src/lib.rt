@@ -14,9 +14,10 @@ use call_replies::Listed;
 use call_replies::Refusal;
 use priority::CONSTANT_COUNT;
 use table::ORDER_WORD;
+use table::SALT_WORD;
 use table_examine::Verdict;
 
-// Write the pages of the order and the keys with the measures beside them, with lists to work in that are at least as long as the table has slots.
+// Write the pages of the order, the salt and the keys with the measures beside them, with lists to work in that are at least as long as the table has slots.
 fn print_within(
     order: u64,
     keys: &[u64],
@@ -32,12 +33,13 @@ fn print_within(
     slots: &mut [u16],
     output: &mut [u8],
     constants: &[u64; CONSTANT_COUNT],
+    salt: u64,
 ) -> usize
-    requires { ⌜ Keys order (now keys) × Beside (now keys) (now tags) × (length (pagesOf (tagged order (now keys) (now tags))) ≤ length (now output)) ⌝ }
+    requires { ⌜ Keys order (now keys) × Beside (now keys) (now tags) × (length (pagesOf (tagged order salt (now keys) (now tags))) ≤ length (now output)) ⌝ }
     requires { ⌜ (0 < many) × (many ≤ mostSlots) × (length (now keys) ≤ many) ⌝ }
     requires { ⌜ (many ≤ length (now weights)) × (many ≤ length (now ranking)) × (many ≤ length (now left)) × (many ≤ length (now right)) ⌝ }
     requires { ⌜ (many ≤ length (now rank)) × (many ≤ length (now count)) × (many ≤ length (now leader)) × (many ≤ length (now slots)) × HoldsConstants (now constants) ⌝ }
-    ensures { λ r. ⌜ Written (now (output .entry)) 0 (pagesOf (tagged order (now (keys .entry)) (now (tags .entry)))) (now (output .exit)) r ⌝ }
+    ensures { λ r. ⌜ Written (now (output .entry)) 0 (pagesOf (tagged order salt (now (keys .entry)) (now (tags .entry)))) (now (output .exit)) r ⌝ }
 {
     table_prepare::prepare(
         order,
@@ -52,11 +54,12 @@ fn print_within(
         leader,
         slots,
         constants,
+        salt,
     );
     text_pages::write(keys, tags, rank, count, leader, output)
 }
 
-// Write the pages of the order and the keys with the measures beside them, which are those of a table of `many` slots.
+// Write the pages of the order, the salt and the keys with the measures beside them, which are those of a table of `many` slots.
 fn print(
     order: u64,
     keys: &[u64],
@@ -64,10 +67,11 @@ fn print(
     many: usize,
     output: &mut [u8],
     constants: &[u64; CONSTANT_COUNT],
+    salt: u64,
 ) -> usize
-    requires { ⌜ Keys order (now keys) × Beside (now keys) (now tags) × (length (pagesOf (tagged order (now keys) (now tags))) ≤ length (now output)) ⌝ }
+    requires { ⌜ Keys order (now keys) × Beside (now keys) (now tags) × (length (pagesOf (tagged order salt (now keys) (now tags))) ≤ length (now output)) ⌝ }
     requires { ⌜ (0 < many) × (many ≤ mostSlots) × (length (now keys) ≤ many) × HoldsConstants (now constants) ⌝ }
-    ensures { λ r. ⌜ Written (now (output .entry)) 0 (pagesOf (tagged order (now (keys .entry)) (now (tags .entry)))) (now (output .exit)) r ⌝ }
+    ensures { λ r. ⌜ Written (now (output .entry)) 0 (pagesOf (tagged order salt (now (keys .entry)) (now (tags .entry)))) (now (output .exit)) r ⌝ }
 {
     let mut weights = [0u64; 4096];
     let mut ranking = [0u16; 4096];
@@ -92,6 +96,7 @@ fn print(
         &mut slots,
         output,
         constants,
+        salt,
     )
 }
 
@@ -109,6 +114,7 @@ fn pages_in(
     ensures { λ _. ⌜ now (output .exit) ≡ pagesOutput (now (table .entry)) (now (output .entry)) ⌝ }
 {
     let order = table[ORDER_WORD];
+    let salt = table[SALT_WORD];
     let found = table_examine::examine(table, many, keys, tags, constants);
     let Verdict::Sound(n) = found else {
         return Listed::Refused(Refusal::NotSound);
@@ -116,7 +122,7 @@ fn pages_in(
     if output.len() < text_pages::size(n) {
         return Listed::Refused(Refusal::OutputTooShort);
     }
-    Listed::Bytes(print(order, &keys[..n], &tags[..n], many, output, constants))
+    Listed::Bytes(print(order, &keys[..n], &tags[..n], many, output, constants, salt))
 }
 
 // The pages of a table of `many` slots, with room for the table's keys and tags, and the constants of the priorities made for it.

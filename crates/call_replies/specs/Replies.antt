@@ -109,7 +109,7 @@ abbrev pub rangedOf : Ranged → Reply
 rangedOf (ranged.Wrote n) = record { refusal = 0; numbers = n ∷ [] }
 rangedOf (ranged.Refused r) = record { refusal = numberOf r; numbers = 0 ∷ [] }
 
--- "Length is 15 + 14·b + 30·n; the writer gives it", and 6 bytes more for each measured key (02, N4).
+-- "Length is 15 + 14·b + 30·n; the writer gives it", 6 bytes more for each measured key (02, N4), and the salt's eight where it is not zero (02, N9).
 abbrev pub writtenOf : Written → Reply
 writtenOf (written.Bytes n) = record { refusal = 0; numbers = n ∷ [] }
 writtenOf (written.Refused r) = record { refusal = numberOf r; numbers = 0 ∷ [] }

@@ -1,7 +1,7 @@
 -- Two books, tables or images agree when the others do. Assumes valid contents.
 use mathlib.Core.Bool.{true}
 use mathlib.Core.List.{List, map}
-use mathlib.Core.Path.{_≡_, refl, sym, ap, _∙_}
+use mathlib.Core.Path.{_≡_, refl, sym, ap, _∙_, subst}
 use Prim.Native.Nat.{ℕ, _≤_}
 use native.Mathlib.Omega.{arith}
 use lib.ListN.{length}
@@ -25,26 +25,22 @@ use Rattle.call_replies.proofs.Refusals.{none-applies}
 use Rattle.call_meaning.proofs.Shows.{sound-shows}
 use Rattle.history.proofs.Refused.{writing-refused}
 
--- ---- order and set
+-- ---- order, salt and set
 pub same-agree : (c d : Contents) → c ≡ d → Agree c d
-same-agree c d e = (
-  ap (λ (b : Contents). b .order) e,
-  λ key. ap (λ (b : Contents). member key (keysIn b)) e,
-  λ key. ap (λ (b : Contents). measureIn (b .entries) key) e,
-)
+same-agree c d e = subst (Agree c) e (refl, refl, (λ key. refl), λ key. refl)
 
 -- entries are told by their keys and the measures of these
 same-found : (c d : Contents) → Agree c d → (keys : List ℕ) → map (entryAt (c .entries)) keys ≡ map (entryAt (d .entries)) keys
 same-found c d agree keys =
-    let same : (key : ℕ) → entryAt (c .entries) key ≡ entryAt (d .entries) key = λ key. ap (λ m. record { key = key; measure = m }) (agree .2 key) in
+    let same : (key : ℕ) → entryAt (c .entries) key ≡ entryAt (d .entries) key = λ key. ap (λ m. record { key = key; measure = m }) (agree .3 key) in
     map-same (entryAt (c .entries)) (entryAt (d .entries)) keys (all-always (λ key. entryAt (c .entries) key ≡ entryAt (d .entries) key) same keys)
 
 pub agree-same : (many several : ℕ) (c d : Contents) → Valid many c → Valid several d → Agree c d → c ≡ d
 agree-same many several c d valid right agree =
     let same-keys : keysIn c ≡ keysIn d =
     rising-unique (keysIn c) (keysIn d) (valid .keys-rise) (right .keys-rise)
-    (all-of-members (λ key. member key (keysIn d) ≡ true) (keysIn c) (λ key m. sym (agree .1 key) ∙ m))
-    (all-of-members (λ key. member key (keysIn c) ≡ true) (keysIn d) (λ key m. agree .1 key ∙ m))
+    (all-of-members (λ key. member key (keysIn d) ≡ true) (keysIn c) (λ key m. sym (agree .2 key) ∙ m))
+    (all-of-members (λ key. member key (keysIn c) ≡ true) (keysIn d) (λ key m. agree .2 key ∙ m))
     in
     let same-entries : c .entries ≡ d .entries =
     sym (entries-by-keys (c .entries) (valid .keys-rise))
@@ -52,12 +48,12 @@ agree-same many several c d valid right agree =
     ∙ ap (map (entryAt (d .entries))) same-keys
     ∙ entries-by-keys (d .entries) (right .keys-rise)
     in
-    λ i. record { order = agree .0 i; entries = same-entries i }
+    λ i. record { order = agree .0 i; salt = agree .1 i; entries = same-entries i }
 
 pub agree-as-lists : AgreeAsLists
 agree-as-lists many several c d valid right = (
-  λ agree. let same = agree-same many several c d valid right agree in (agree .0, ap (λ (b : Contents). b .entries) same),
-  λ same. same-agree c d (λ i. record { order = same .0 i; entries = same .1 i }),
+  λ agree. let same = agree-same many several c d valid right agree in (agree .0, agree .1, ap (λ (b : Contents). b .entries) same),
+  λ same. same-agree c d (λ i. record { order = same .0 i; salt = same .1 i; entries = same .2 i }),
 )
 
 -- ---- images
@@ -66,6 +62,7 @@ within-most : (many : ℕ) (c : Contents) → many ≤ mostSlots → Valid many 
 within-most many c most valid =
     record {
       order-right = valid .order-right;
+      salt-right = valid .salt-right;
       keys-right = valid .keys-right;
       keys-rise = valid .keys-rise;
       keys-fit = omega (arith, valid .keys-fit);

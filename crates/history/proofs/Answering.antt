@@ -44,18 +44,18 @@ module _ (many : ℕ) (words : List ℕ) (book : Contents) (table : Shows many w
       rw (step-accepted many words book table, key-sought place)
       (step-said (place .done) (leastWithin (place .next) (place .high) (keysIn book)))
 
-  set-up-replies : (order : ℕ) → setUpReply words order ≡ replyBy many (setUp order) book
+  set-up-replies : (order salt : ℕ) → setUpReply words order ≡ replyBy many (setUp order salt) book
   unfolding setUpReply replyBy
-  set-up-replies order = rw (set-up-refused many words book table order, both-same)
+  set-up-replies order salt = rw (set-up-refused many words book table order salt, both-same)
 
   load-replies : (order seed count : ℕ) → loadReply words order ≡ replyBy many (load order seed count) book
   unfolding loadReply replyBy
   load-replies order seed count = rw (load-refused many words book table order seed count, both-same)
 
-  build-replies : (order : ℕ) (list lengths : List ℕ) (corrections : List ℤ)
-      → buildReply words order list lengths corrections ≡ replyBy many (build order list lengths corrections) book
+  build-replies : (order salt : ℕ) (list lengths : List ℕ) (corrections : List ℤ)
+      → buildReply words order list lengths corrections ≡ replyBy many (build order salt list lengths corrections) book
   unfolding buildReply replyBy
-  build-replies order list lengths corrections = rw (build-refused many words book table order list lengths corrections, both-same)
+  build-replies order salt list lengths corrections = rw (build-refused many words book table order salt list lengths corrections, both-same)
 
   reading-replies : (bytes : List ℕ) → readReply words bytes ≡ replyBy many (reading bytes) book
   unfolding readReply replyBy
@@ -94,8 +94,8 @@ module _ (many : ℕ) (words : List ℕ) (book : Contents) (table : Shows many w
   printing-replies lent = rw (printing-refused many words book table lent, table .holds)
 
   replies-by-book : (call : Call) → reply call words ≡ replyBy many call book
-  replies-by-book (setUp order) = set-up-replies order
-  replies-by-book (build order list lengths corrections) = build-replies order list lengths corrections
+  replies-by-book (setUp order salt) = set-up-replies order salt
+  replies-by-book (build order salt list lengths corrections) = build-replies order salt list lengths corrections
   replies-by-book (reading bytes) = reading-replies bytes
   replies-by-book (insert key measure) = insert-replies key measure
   replies-by-book (delete key) = delete-replies key
@@ -125,8 +125,8 @@ module _ (many : ℕ) (words : List ℕ) (book : Contents) (table : Shows many w
 
   outputs-by-book : (call : Call) → output call words ≡ outputBy many call book
   unfolding outputBy
-  outputs-by-book (setUp order) = same-output (setUp order) []
-  outputs-by-book (build order list lengths corrections) = same-output (build order list lengths corrections) []
+  outputs-by-book (setUp order salt) = same-output (setUp order salt) []
+  outputs-by-book (build order salt list lengths corrections) = same-output (build order salt list lengths corrections) []
   outputs-by-book (reading bytes) = same-output (reading bytes) []
   outputs-by-book (insert key measure) = same-output (insert key measure) []
   outputs-by-book (delete key) = same-output (delete key) []

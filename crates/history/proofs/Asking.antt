@@ -12,8 +12,8 @@ use Rattle.history.specs.Book.{blank, refusalBy, note, notes}
 use Rattle.history.specs.Theorems.{AskingChangesNothing}
 
 leaves-words : (call : Call) → asks call ≡ true → (words : List ℕ) → run call words ≡ words
-leaves-words (setUp order) e words = absurd (true-or-false false e refl)
-leaves-words (build order list lengths corrections) e words = absurd (true-or-false false e refl)
+leaves-words (setUp order salt) e words = absurd (true-or-false false e refl)
+leaves-words (build order salt list lengths corrections) e words = absurd (true-or-false false e refl)
 leaves-words (reading bytes) e words = absurd (true-or-false false e refl)
 leaves-words (insert key measure) e words = absurd (true-or-false false e refl)
 leaves-words (delete key) e words = absurd (true-or-false false e refl)
@@ -27,8 +27,8 @@ leaves-words (printing output) e words = refl
 
 leaves-book : (call : Call) → asks call ≡ true → (many : ℕ) (book : Contents) → note many call book ≡ book
 unfolding note
-leaves-book (setUp order) e many book = absurd (true-or-false false e refl)
-leaves-book (build order list lengths corrections) e many book = absurd (true-or-false false e refl)
+leaves-book (setUp order salt) e many book = absurd (true-or-false false e refl)
+leaves-book (build order salt list lengths corrections) e many book = absurd (true-or-false false e refl)
 leaves-book (reading bytes) e many book = absurd (true-or-false false e refl)
 leaves-book (insert key measure) e many book = absurd (true-or-false false e refl)
 leaves-book (delete key) e many book = absurd (true-or-false false e refl)
@@ -63,5 +63,5 @@ asking-changes-nothing =
       table = leaves-words;
       book = leaves-book;
       table-after = λ history words. same-words (callsOf history) words;
-      book-after = λ many history. same-book many (callsOf history) (blank 0);
+      book-after = λ many history. same-book many (callsOf history) (blank 0 0);
     }

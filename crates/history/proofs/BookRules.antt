@@ -27,10 +27,10 @@ either-way-equal key other =
     (λ e. eq-eqb other key (sym (eqb-true key other e)))
     (λ e. eq-eqb key other (sym (eqb-true other key e)))
 
-beside-listed : (order : ℕ) (list lengths : List ℕ) (corrections : List ℤ) → Rising list → length lengths ≡ length list
+beside-listed : (order salt : ℕ) (list lengths : List ℕ) (corrections : List ℤ) → Rising list → length lengths ≡ length list
     → length corrections ≡ length list → (i : ℕ) → i < length list
-    → measureIn (listed order list lengths corrections .entries) (getD list i 0) ≡ record { length = getD lengths i 0; correction = getD corrections i (pos 0) }
-beside-listed order list lengths corrections rise long wide i h =
+    → measureIn (listed order salt list lengths corrections .entries) (getD list i 0) ≡ record { length = getD lengths i 0; correction = getD corrections i (pos 0) }
+beside-listed order salt list lengths corrections rise long wide i h =
     found-beside list (measuresBeside lengths corrections) i rise h ∙ beside-at lengths corrections (wide ∙ sym long) i
 
 joins-measured : (key other : ℕ) (measure : Measure) (book : Contents) → member key (keysIn book) ≡ false
@@ -53,7 +53,7 @@ leaves-measured key other book =
 pub book-rules : BookRules
 book-rules =
     record {
-      lists = λ order list lengths corrections. with-keys list (measuresBeside lengths corrections);
+      lists = λ order salt list lengths corrections. with-keys list (measuresBeside lengths corrections);
       lists-measures = beside-listed;
       joins = λ key other measure book. joined-members (record { key = key; measure = measure }) other (book .entries);
       joins-measures = joins-measured;

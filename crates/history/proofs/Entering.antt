@@ -46,9 +46,9 @@ module _ (many : ℕ) (words : List ℕ) (book : Contents) (table : Shows many w
 
   pub run-notes : (call : Call) → run call words ≡ fresh many (note many call book)
   unfolding note setUpAfter loadAfter buildAfter readAfter insertAfter deleteAfter grown shrunk
-  run-notes (setUp order) = written _ _ (blank order) _ (set-up-refused many words book table order) refl
-  run-notes (build order list lengths corrections) =
-      written _ _ (listed order list lengths corrections) _ (build-refused many words book table order list lengths corrections) refl
+  run-notes (setUp order salt) = written _ _ (blank order salt) _ (set-up-refused many words book table order salt) refl
+  run-notes (build order salt list lengths corrections) =
+      written _ _ (listed order salt list lengths corrections) _ (build-refused many words book table order salt list lengths corrections) refl
   run-notes (reading bytes) = written _ _ (readImage bytes) _ (reading-refused many words book table bytes) refl
   run-notes (insert key measure) =
       written _ _ (grown words key measure) _ (insert-refused many words book table key measure) (ap (withKey key measure) (table .holds))
@@ -69,17 +69,18 @@ module _ (many : ℕ) (book : Contents) (valid : Valid many book) where
   abbrev Spared : Call → Type 0
   Spared call = All (λ r. r .applies ≡ false) (reasons many call book)
 
-  listed-valid : (order : ℕ) (list lengths : List ℕ) (corrections : List ℤ) → Lent (build order list lengths corrections)
-      → Spared (build order list lengths corrections) → Valid many (listed order list lengths corrections)
+  listed-valid : (order salt : ℕ) (list lengths : List ℕ) (corrections : List ℤ) → Lent (build order salt list lengths corrections)
+      → Spared (build order salt list lengths corrections) → Valid many (listed order salt list lengths corrections)
   unfolding newOrder wrongOrder notRising wrongMeasures
-  listed-valid order list lengths corrections lent spared =
+  listed-valid order salt list lengths corrections lent spared =
       let rising = rising-says list (not-false (risingKeys list) (spared .1 .0)) in
       let measures = measuresBeside lengths corrections in
       let same = sym (with-keys list measures) in
       let tested = measured-says (length list) lengths corrections (not-false _ (spared .1 .1 .0)) .2 in
       record {
         order-right = not-false (newOrder order) (spared .0);
-        keys-right = subst (All IsKey) same (all-both (λ k. 1 ≤ k) (λ k. k < 2 ^ 64) list (rising .1) (lent .1));
+        salt-right = lent .1;
+        keys-right = subst (All IsKey) same (all-both (λ k. 1 ≤ k) (λ k. k < 2 ^ 64) list (rising .1) (lent .2));
         keys-rise = subst Rising same (rising .0);
         keys-fit = omega (arith, ap length same, ltb-false many (length list) (spared .1 .1 .1 .0));
         measures-right = with-right list measures (every-says isMeasure measures tested);
@@ -91,6 +92,7 @@ module _ (many : ℕ) (book : Contents) (valid : Valid many book) where
       let image = is-image-valid bytes (not-false (isImage bytes) (spared .0)) lent in
       record {
         order-right = image .order-right;
+        salt-right = image .salt-right;
         keys-right = image .keys-right;
         keys-rise = image .keys-rise;
         keys-fit = ltb-false many (length (keysIn (readImage bytes))) (spared .1 .0);
@@ -114,8 +116,8 @@ module _ (many : ℕ) (book : Contents) (valid : Valid many book) where
 
   numbered : (call : Call) → All (λ r. 1 ≤ r .number) (reasons many call book)
   unfolding wrongOrder notRising notAnImage zeroKey lowAboveHigh outputTooShort wrongMeasure wrongMeasures
-  numbered (setUp order) = omega arith
-  numbered (build order list lengths corrections) = omega arith
+  numbered (setUp order salt) = omega arith
+  numbered (build order salt list lengths corrections) = omega arith
   numbered (reading bytes) = omega arith
   numbered (insert key measure) = omega arith
   numbered (delete key) = omega arith
@@ -129,8 +131,8 @@ module _ (many : ℕ) (book : Contents) (valid : Valid many book) where
 
   entered-valid : (call : Call) → Lent call → Spared call → Valid many (entered many call book)
   unfolding wrongOrder
-  entered-valid (setUp order) lent spared = blank-valid many order (not-false (newOrder order) (spared .0))
-  entered-valid (build order list lengths corrections) lent spared = listed-valid order list lengths corrections lent spared
+  entered-valid (setUp order salt) lent spared = blank-valid many order salt (not-false (newOrder order) (spared .0)) (lent .1)
+  entered-valid (build order salt list lengths corrections) lent spared = listed-valid order salt list lengths corrections lent spared
   entered-valid (reading bytes) lent spared = read-valid bytes lent spared
   entered-valid (insert key measure) lent spared = key-joins key measure lent spared
   entered-valid (delete key) lent spared = without-valid key many book valid

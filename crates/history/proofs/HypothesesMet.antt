@@ -15,8 +15,8 @@ every-call =
       words = λ n small. small;
       bytes = λ b small. small;
       corrections = λ z low high. (low, high);
-      set-ups = λ order word. word;
-      builds = λ order list lengths corrections word sized long signed. (word, sized, long, signed);
+      set-ups = λ order salt word other. (word, other);
+      builds = λ order salt list lengths corrections word other sized long signed. (word, other, sized, long, signed);
       readings = λ image small. small;
       inserts = λ key measure word long signed. (word, long, signed);
       deletes = λ key word. word;
@@ -33,8 +33,8 @@ pub every-history : EveryHistory
 unfolding newOrder tableOrder
 every-history =
     record {
-      by-set-up = λ order later least greatest lent.
-          (record { first = bySetUp order; accepted = lies-when _ _ order least greatest; later = later; lent = (omega arith, lent) }, refl);
+      by-set-up = λ order salt later least greatest word lent.
+          (record { first = bySetUp order salt; accepted = lies-when _ _ order least greatest; later = later; lent = ((omega arith, word), lent) }, refl);
       by-load = λ order seed count later least greatest start few lent.
           (record { first = byLoad order seed count; accepted = lies-when _ _ order least greatest; later = later; lent = ((omega arith, start, few), lent) }, refl);
     }

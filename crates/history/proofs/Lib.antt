@@ -10,3 +10,4 @@ pub mod Agreeing
 pub mod Claims
 pub mod Tested
 pub mod HypothesesMet
+pub mod Salted

@@ -69,8 +69,8 @@ module _ (many : ℕ) where
   counts-in-book order seed count right book =
       let ops = operations seed count in
       first-noted many (byLoad order seed count) right book
-      ∙ sym (note-operations ops (blank order) (operations-keys seed count) (blank-valid many order right))
-      ∙ sym (ap (notes many (map callFor ops)) (first-noted many (bySetUp order) right book))
+      ∙ sym (note-operations ops (blank order 0) (operations-keys seed count) (blank-valid many order 0 right (omega arith)))
+      ∙ sym (ap (notes many (map callFor ops)) (first-noted many (bySetUp order 0) right book))
 
   -- and a refused one not at all
   refused-noted : (order seed count : ℕ) → newOrder order ≡ false → (book : Contents) → note many (load order seed count) book ≡ book
@@ -90,11 +90,11 @@ unfolding loaded
 counts-in-table many words table order seed count right =
     let ops = operations seed count in
     let keys = operations-keys seed count in
-    let valid = blank-valid many order right in
+    let valid = blank-valid many order 0 right (omega arith) in
     first-leaves many words table (byLoad order seed count) right
-    ∙ ap (fresh many) (sym (note-operations many ops (blank order) keys valid))
-    ∙ sym (runs-note many (table .some) (table .most) (map callFor ops) (operations-lent ops keys) (run (setUp order) words) (blank order) valid
-    (first-leaves many words table (bySetUp order) right) .0)
+    ∙ ap (fresh many) (sym (note-operations many ops (blank order 0) keys valid))
+    ∙ sym (runs-note many (table .some) (table .most) (map callFor ops) (operations-lent ops keys) (run (setUp order 0) words) (blank order 0) valid
+    (first-leaves many words table (bySetUp order 0) right) .0)
 
 module _ (words : List ℕ) (order : ℕ) (accepted : loadRefusal words order ≡ 0) where
   spared : (eqb (slotsFor (length words)) 0 ≡ false) × (newOrder order ≡ true)
@@ -126,8 +126,8 @@ notes-append many (call ∷ calls) more book = notes-append many calls more (not
 
 -- a call is noted as the calls that it stands for
 stands-noted : (many : ℕ) (call : Call) (book : Contents) → notes many (standsFor call) book ≡ note many call book
-stands-noted many (setUp order) book = refl
-stands-noted many (build order list lengths corrections) book = refl
+stands-noted many (setUp order salt) book = refl
+stands-noted many (build order salt list lengths corrections) book = refl
 stands-noted many (reading bytes) book = refl
 stands-noted many (insert key measure) book = refl
 stands-noted many (delete key) book = refl
@@ -151,8 +151,8 @@ spelled-noted many (call ∷ calls) book =
     ∙ spelled-noted many calls (note many call book)
 
 stands-lent : (call : Call) → Lent call → All Lent (standsFor call)
-stands-lent (setUp order) lent = (lent, tt)
-stands-lent (build order list lengths corrections) lent = (lent, tt)
+stands-lent (setUp order salt) lent = (lent, tt)
+stands-lent (build order salt list lengths corrections) lent = (lent, tt)
 stands-lent (reading bytes) lent = (lent, tt)
 stands-lent (insert key measure) lent = (lent, tt)
 stands-lent (delete key) lent = (lent, tt)
@@ -163,7 +163,7 @@ stands-lent (step place) lent = (lent, tt)
 stands-lent (batch questions) lent = (lent, tt)
 stands-lent (printing output) lent = (lent, tt)
 stands-lent (load order seed count) lent =
-    by-test (newOrder order) (λ e. rw e (lent .0, operations-lent (operations seed count) (operations-keys seed count))) (λ e. rw e tt)
+    by-test (newOrder order) (λ e. rw e ((lent .0, omega arith), operations-lent (operations seed count) (operations-keys seed count))) (λ e. rw e tt)
 
 spelled-lent : (calls : List Call) → All Lent calls → All Lent (spelledOut calls)
 unfolding flatMap
@@ -176,15 +176,15 @@ unfolding flatMap
 without-loads history = go (history .first) (history .accepted) (history .later) (history .lent)
   where
     go : (first : Opening) → Accepted first → (later : List Call) → All Lent (opened first ∷ later) → (other : History) × (callsOf other ≡ spelledOut (opened first ∷ later))
-    go (bySetUp order) right later lent =
-        (record { first = bySetUp order; accepted = right; later = spelledOut later; lent = (lent .0, spelled-lent later (lent .1)) }, refl)
+    go (bySetUp order salt) right later lent =
+        (record { first = bySetUp order salt; accepted = right; later = spelledOut later; lent = (lent .0, spelled-lent later (lent .1)) }, refl)
     go (byLoad order seed count) right later lent =
         let ops = operations seed count in (
           record {
-            first = bySetUp order;
+            first = bySetUp order 0;
             accepted = right;
             later = map callFor ops ++ spelledOut later;
-            lent = (lent .0 .0, all-append Lent (map callFor ops) (spelledOut later) (operations-lent ops (operations-keys seed count)) (spelled-lent later (lent .1)));
+            lent = ((lent .0 .0, omega arith), all-append Lent (map callFor ops) (spelledOut later) (operations-lent ops (operations-keys seed count)) (spelled-lent later (lent .1)));
           },
           rw right,
         )
@@ -198,7 +198,7 @@ loads-spelled-out =
           ap (λ (calls : List Call). runs calls words) (sym e)
           ∙ table-from-book many words other table .0
           ∙ ap (λ (calls : List Call). fresh many (bookOf many calls)) e
-          ∙ ap (fresh many) (spelled-noted many (callsOf history) (blank 0))
+          ∙ ap (fresh many) (spelled-noted many (callsOf history) (blank 0 0))
           ∙ sym (table-from-book many words history table .0);
-      book = λ many history. spelled-noted many (callsOf history) (blank 0);
+      book = λ many history. spelled-noted many (callsOf history) (blank 0 0);
     }

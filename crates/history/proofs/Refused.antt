@@ -16,18 +16,18 @@ use Rattle.history.specs.Book.{refusalBy}
 use Rattle.call_meaning.proofs.Shows.{Shows}
 
 module _ (many : ℕ) (words : List ℕ) (book : Contents) (table : Shows many words book) where
-  pub set-up-refused : (order : ℕ) → setUpRefusal words order ≡ refusalBy many (setUp order) book
+  pub set-up-refused : (order salt : ℕ) → setUpRefusal words order ≡ refusalBy many (setUp order salt) book
   unfolding setUpRefusal refusalBy wrongLength
-  set-up-refused order = rw (table .right)
+  set-up-refused order salt = rw (table .right)
 
   pub load-refused : (order seed count : ℕ) → loadRefusal words order ≡ refusalBy many (load order seed count) book
   unfolding loadRefusal refusalBy wrongLength
   load-refused order seed count = rw (table .right)
 
-  pub build-refused : (order : ℕ) (list lengths : List ℕ) (corrections : List ℤ)
-      → buildRefusal words order list lengths corrections ≡ refusalBy many (build order list lengths corrections) book
+  pub build-refused : (order salt : ℕ) (list lengths : List ℕ) (corrections : List ℤ)
+      → buildRefusal words order list lengths corrections ≡ refusalBy many (build order salt list lengths corrections) book
   unfolding buildRefusal refusalBy wrongLength tooManyKeys
-  build-refused order list lengths corrections = rw (table .right, table .slots)
+  build-refused order salt list lengths corrections = rw (table .right, table .slots)
 
   pub reading-refused : (bytes : List ℕ) → readRefusal words bytes ≡ refusalBy many (reading bytes) book
   unfolding readRefusal refusalBy wrongLength tooManyKeys

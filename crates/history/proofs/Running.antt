@@ -34,16 +34,16 @@ module _ (many : ℕ) (some : 1 ≤ many) (most : many ≤ mostSlots) where
 -- ---- the first call
 -- the book that the first call leaves
 abbrev pub begunBook : ℕ → Opening → Contents
-begunBook many first = entered many (opened first) (blank 0)
+begunBook many first = entered many (opened first) (blank 0 0)
 
 module _ (many : ℕ) where
-  begun-valid : (first : Opening) → Accepted first → Valid many (begunBook many first)
-  begun-valid (bySetUp order) right = blank-valid many order right
-  begun-valid (byLoad order seed count) right = loaded-valid many order seed count right
+  begun-valid : (first : Opening) → Accepted first → Lent (opened first) → Valid many (begunBook many first)
+  begun-valid (bySetUp order salt) right lent = blank-valid many order salt right (lent .1)
+  begun-valid (byLoad order seed count) right lent = loaded-valid many order seed count right
 
   pub first-noted : (first : Opening) → Accepted first → (before : Contents) → note many (opened first) before ≡ begunBook many first
   unfolding note refusalBy wrongOrder
-  first-noted (bySetUp order) right before = rw right
+  first-noted (bySetUp order salt) right before = rw right
   first-noted (byLoad order seed count) right before = rw right
 
 module _ (many : ℕ) (words : List ℕ) (table : Table many words) where
@@ -61,12 +61,12 @@ module _ (many : ℕ) (words : List ℕ) (table : Table many words) where
 
   opening-accepted : (first : Opening) → ((reply (opened first) words .refusal ≡ 0) ↔ Accepted first)
   unfolding setUpReply setUpRefusal loadReply loadRefusal
-  opening-accepted (bySetUp order) = order-accepted order
+  opening-accepted (bySetUp order salt) = order-accepted order
   opening-accepted (byLoad order seed count) = order-accepted order
 
   pub first-leaves : (first : Opening) → Accepted first → run (opened first) words ≡ fresh many (begunBook many first)
   unfolding setUpAfter setUpRefusal loadAfter loadRefusal rewritten
-  first-leaves (bySetUp order) right = rw (order-accepted order .1 right, slots-here words many (table .some) (table .most) (table .long))
+  first-leaves (bySetUp order salt) right = rw (order-accepted order .1 right, slots-here words many (table .some) (table .most) (table .long))
   first-leaves (byLoad order seed count) right = rw (order-accepted order .1 right, slots-here words many (table .some) (table .most) (table .long))
 
 pub first-accepted : FirstAccepted
@@ -78,15 +78,15 @@ begun : (many : ℕ) (history : History) (before : Contents)
 begun many history before = ap (notes many (history .later)) (first-noted many (history .first) (history .accepted) before)
 
 pub any-start : AnyStart
-any-start many history before = begun many history before ∙ sym (begun many history (blank 0))
+any-start many history before = begun many history before ∙ sym (begun many history (blank 0 0))
 
 -- ---- whole histories
 pub table-from-book : TableFromBook
 table-from-book many words history table =
     let first = history .first in
-    rw (begun many history (blank 0))
+    rw (begun many history (blank 0 0))
     (runs-note many (table .some) (table .most) (history .later) (history .lent .1) (run (opened first) words) (begunBook many first)
-    (begun-valid many first (history .accepted)) (first-leaves many words table first (history .accepted)))
+    (begun-valid many first (history .accepted) (history .lent .0)) (first-leaves many words table first (history .accepted)))
 
 -- a history leaves a sound table, which holds its book
 abbrev pub sound-after : (many : ℕ) (words : List ℕ) (history : History) → Table many words → Sound (tableAfter history words)

@@ -1,5 +1,5 @@
--- The book: an order and a set of keys, "fed the calls with their inputs, no reply and no word of its own table" (01); "a set, the book's
--- too, is now one of keys with their measures" (02, N4); and what the calls answer by the book. M, the number of slots, is `many`. Assumes
+-- The book: an order, a salt and a set of keys, "fed the calls with their inputs, no reply and no word of its own table" (01); "a set, the book's
+-- too, is now one of keys with their measures" (02, N4); "the book also keeps the salt" (02, N9); and what the calls answer by the book. M, the number of slots, is `many`. Assumes
 -- nothing.
 use mathlib.Core.Bool.{cond, not}
 use mathlib.Core.List.{List, [], _∷_, _++_, map}
@@ -9,9 +9,8 @@ use lib.IntN.{ℤ, pos}
 use lib.ListN.{length, getD}
 use Rattle.lists.specs.Lists.{member, overwrite}
 use Rattle.measure.specs.Measure.{Measure, measuresBeside}
-use Rattle.priority.specs.Priority.{priorityOf}
 use Rattle.treap.specs.Blocks.{blocksMet, blocksMetByAll}
-use Rattle.table.specs.Contents.{Contents, keysIn, measureIn, entriesWith}
+use Rattle.table.specs.Contents.{Contents, keysIn, priorityIn, measureIn, entriesWith}
 use Rattle.image.specs.Image.{imageOf, readImage}
 use Rattle.call_sets.specs.Sets.{joined, without}
 use Rattle.call_sets.specs.Load.{loaded}
@@ -28,32 +27,34 @@ use Rattle.text_pages.specs.Pages.{pagesOf}
 use Rattle.history.specs.Call.{Call, setUp, build, reading, insert, delete, lookup, range, writing, step, load, batch, printing}
 
 -- ---- what is noted
--- "Set-up ..: the given order, no keys."
-abbrev pub blank : ℕ → Contents
-blank order = record { order = order; entries = [] }
+-- "Set-up ..: the given order, no keys" (01); "the book also keeps the salt, as the calls give it" (02, N9).
+abbrev pub blank : ℕ → ℕ → Contents
+blank order salt = record { order = order; salt = salt; entries = [] }
 
--- "Build ..: the given order and the listed keys", with the measures beside them.
-abbrev pub listed : ℕ → List ℕ → List ℕ → List ℤ → Contents
-listed order list lengths corrections = record { order = order; entries = entriesWith list (measuresBeside lengths corrections) }
+-- "Build ..: the given order and the listed keys", with the given salt and the measures beside the keys.
+abbrev pub listed : ℕ → ℕ → List ℕ → List ℕ → List ℤ → Contents
+listed order salt list lengths corrections = record { order = order; salt = salt; entries = entriesWith list (measuresBeside lengths corrections) }
 
 -- "Insert ..: the key joins the set", with its measure.
 abbrev pub withKey : ℕ → Measure → Contents → Contents
-withKey key measure book = record { order = book .order; entries = joined (record { key = key; measure = measure }) (book .entries) }
+withKey key measure book =
+    record { order = book .order; salt = book .salt; entries = joined (record { key = key; measure = measure }) (book .entries) }
 
 -- "Delete ..: the key leaves it", and its measure with it.
 abbrev pub withoutKey : ℕ → Contents → Contents
-withoutKey key book = record { order = book .order; entries = without key (book .entries) }
+withoutKey key book = record { order = book .order; salt = book .salt; entries = without key (book .entries) }
 
 -- "A load sets up the table with a given order, then does 0 to 65,535 operations .. The end set must equal what these rules give
--- without the treap": the given order and the end set of its rules, over M slots, all unmeasured.
+-- without the treap" (02, N1); "loads use salt zero" (02, N9): the given order, salt zero, and the end set of its rules, over M slots, all
+-- unmeasured.
 abbrev pub loadedBook : ℕ → ℕ → ℕ → ℕ → Contents
-loadedBook many order seed count = record { order = order; entries = loaded many seed count }
+loadedBook many order seed count = record { order = order; salt = 0; entries = loaded many seed count }
 
--- The book after an accepted call: "Reading ..: the order and set whose image the bytes are"; "at a lookup, range or writing, the book
+-- The book after an accepted call: "Reading ..: the order and set whose image the bytes are", and the salt; "at a lookup, range or writing, the book
 -- stays as it was", and steps, batches of lookups and printings "change neither table nor book".
 abbrev pub entered : ℕ → Call → Contents → Contents
-entered many (setUp order) book = blank order
-entered many (build order list lengths corrections) book = listed order list lengths corrections
+entered many (setUp order salt) book = blank order salt
+entered many (build order salt list lengths corrections) book = listed order salt list lengths corrections
 entered many (reading bytes) book = readImage bytes
 entered many (insert key measure) book = withKey key measure book
 entered many (delete key) book = withoutKey key book
@@ -79,8 +80,8 @@ tooMany many n = record { number = 10; applies = ltb many n }
 
 -- The reasons for which a call is turned down, by the book: 1 and 7 never apply.
 abbrev pub reasons : ℕ → Call → Contents → List Reason
-reasons many (setUp order) book = wrongOrder order ∷ []
-reasons many (build order list lengths corrections) book =
+reasons many (setUp order salt) book = wrongOrder order ∷ []
+reasons many (build order salt list lengths corrections) book =
     wrongOrder order ∷ notRising list ∷ wrongMeasures list lengths corrections ∷ tooMany many (length list) ∷ []
 reasons many (reading bytes) book = notAnImage bytes ∷ tooMany many (length (keysIn (readImage bytes))) ∷ []
 reasons many (insert key measure) book =
@@ -111,29 +112,29 @@ notes many (call ∷ calls) book = notes many calls (note many call book)
 
 -- The book of a history; what stood in it before the first call does not matter.
 abbrev pub bookOf : ℕ → List Call → Contents
-bookOf many calls = notes many calls (blank 0)
+bookOf many calls = notes many calls (blank 0 0)
 
 -- ---- what the calls answer by the book
 -- The numbers of an accepted call's reply; a lookup's length comes last.
 abbrev pub numbersBy : Call → Contents → List ℕ
-numbersBy (setUp order) book = []
-numbersBy (build order list lengths corrections) book = []
+numbersBy (setUp order salt) book = []
+numbersBy (build order salt list lengths corrections) book = []
 numbersBy (reading bytes) book = []
 numbersBy (insert key measure) book = rankIn (withKey key measure book) key ∷ []
 numbersBy (delete key) book = rankIn book key ∷ []
 numbersBy (lookup key) book =
-    standingIn book key ++ (blocksMet (book .order) priorityOf (keysIn book) key ∷ measureIn (book .entries) key .length ∷ [])
+    standingIn book key ++ (blocksMet (book .order) (priorityIn book) (keysIn book) key ∷ measureIn (book .entries) key .length ∷ [])
 numbersBy (range low high output) book = length (within low high (keysIn book)) ∷ []
 numbersBy (writing output) book = length (imageOf book) ∷ []
 numbersBy (step place) book = cond (place .done) endReply (yielded (leastWithin (place .next) (place .high) (keysIn book))) .numbers
 numbersBy (load order seed count) book = []
-numbersBy (batch questions) book = blocksMetByAll (book .order) priorityOf (keysIn book) (keysOf questions) ∷ []
+numbersBy (batch questions) book = blocksMetByAll (book .order) (priorityIn book) (keysIn book) (keysOf questions) ∷ []
 numbersBy (printing output) book = length (pagesOf book) ∷ []
 
 -- "A refusal returns its number, all other numbers zero".
 abbrev pub zeros : Call → List ℕ
-zeros (setUp order) = []
-zeros (build order list lengths corrections) = []
+zeros (setUp order salt) = []
+zeros (build order salt list lengths corrections) = []
 zeros (reading bytes) = []
 zeros (insert key measure) = 0 ∷ []
 zeros (delete key) = 0 ∷ []
@@ -155,8 +156,8 @@ correctionBy many key book = unlessRefused (refusalBy many (lookup key) book) (m
 
 -- What an accepted range, writing or printing leaves in its output, and what a refused one does; none where a call is lent none.
 abbrev pub filled : Call → Contents → List ℕ
-filled (setUp order) book = []
-filled (build order list lengths corrections) book = []
+filled (setUp order salt) book = []
+filled (build order salt list lengths corrections) book = []
 filled (reading bytes) book = []
 filled (insert key measure) book = []
 filled (delete key) book = []
@@ -169,8 +170,8 @@ filled (batch questions) book = []
 filled (printing output) book = overwrite output 0 (pagesOf book)
 
 abbrev pub lentOutput : Call → List ℕ
-lentOutput (setUp order) = []
-lentOutput (build order list lengths corrections) = []
+lentOutput (setUp order salt) = []
+lentOutput (build order salt list lengths corrections) = []
 lentOutput (reading bytes) = []
 lentOutput (insert key measure) = []
 lentOutput (delete key) = []

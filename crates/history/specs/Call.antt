@@ -22,10 +22,11 @@ use Rattle.call_pages.specs.Paged.{pagesReply, pagesOutput}
 -- "A history is a list of set-up, build, reading (of an image), insert, delete, lookup, range and writing (of one), refused calls
 -- included .. Each call brings its own inputs, whatever they hold, and its own output .. steps, and calls of document 02 that write no word
 -- of this table, may come anywhere between" (01); of document 02 a load (N1), a batch of lookups (N2) and a printing of pages (N6). "Inserts, build lists and lookups
--- carry" measures (N4): an insert its key's, a build list the lengths and the corrections beside it.
+-- carry" measures (N4): an insert its key's, a build list the lengths and the corrections beside it. A
+-- set-up and a build bring the salt, "chosen at set-up or build" (N9).
 pub data Call : Type 0 where
-  setUp : (order : ℕ) → Call
-  build : (order : ℕ) → (list : List ℕ) → (lengths : List ℕ) → (corrections : List ℤ) → Call
+  setUp : (order : ℕ) → (salt : ℕ) → Call
+  build : (order : ℕ) → (salt : ℕ) → (list : List ℕ) → (lengths : List ℕ) → (corrections : List ℤ) → Call
   reading : (bytes : List ℕ) → Call
   insert : (key : ℕ) → (measure : Measure) → Call
   delete : (key : ℕ) → Call
@@ -51,8 +52,8 @@ IsQuestion q = IsWord (q .key) × IsWord (q .held) × IsWord (q .rank)
 
 -- What each call can be lent; a load "a 64-bit seed" and "a 16-bit count".
 abbrev pub Lent : Call → Type 0
-Lent (setUp order) = IsWord order
-Lent (build order list lengths corrections) = IsWord order × All IsWord list × All IsWord lengths × All IsCorrection corrections
+Lent (setUp order salt) = IsWord order × IsWord salt
+Lent (build order salt list lengths corrections) = IsWord order × IsWord salt × All IsWord list × All IsWord lengths × All IsCorrection corrections
 Lent (reading bytes) = All IsByte bytes
 Lent (insert key measure) = IsWord key × IsWord (measure .length) × IsCorrection (measure .correction)
 Lent (delete key) = IsWord key
@@ -66,8 +67,8 @@ Lent (printing output) = All IsByte output
 
 -- The table's words after a call: those that the call's contract names, and the same words where it writes none.
 abbrev pub run : Call → List ℕ → List ℕ
-run (setUp order) words = setUpAfter words order
-run (build order list lengths corrections) words = buildAfter words order list lengths corrections
+run (setUp order salt) words = setUpAfter words order salt
+run (build order salt list lengths corrections) words = buildAfter words order salt list lengths corrections
 run (reading bytes) words = readAfter words bytes
 run (insert key measure) words = insertAfter words key measure
 run (delete key) words = deleteAfter words key
@@ -81,8 +82,8 @@ run (printing output) words = words
 
 -- What a call over these words replies, as its contract says. The correction of a lookup, which has a sign, has a claim of its own.
 abbrev pub reply : Call → List ℕ → Reply
-reply (setUp order) words = setUpReply words order
-reply (build order list lengths corrections) words = buildReply words order list lengths corrections
+reply (setUp order salt) words = setUpReply words order
+reply (build order salt list lengths corrections) words = buildReply words order list lengths corrections
 reply (reading bytes) words = readReply words bytes
 reply (insert key measure) words = insertReply words key measure
 reply (delete key) words = deleteReply words key
@@ -97,8 +98,8 @@ reply (printing output) words = pagesReply words output
 -- The output that a call over these words was lent, after it, as its contract says; none where it is lent none. A step's place and a batch's
 -- lines are no such list; they have claims of their own.
 abbrev pub output : Call → List ℕ → List ℕ
-output (setUp order) words = []
-output (build order list lengths corrections) words = []
+output (setUp order salt) words = []
+output (build order salt list lengths corrections) words = []
 output (reading bytes) words = []
 output (insert key measure) words = []
 output (delete key) words = []
@@ -117,8 +118,8 @@ runs (call ∷ calls) words = runs calls (run call words)
 
 -- The calls that are lent the table to read it alone.
 abbrev pub asks : Call → Bool
-asks (setUp order) = false
-asks (build order list lengths corrections) = false
+asks (setUp order salt) = false
+asks (build order salt list lengths corrections) = false
 asks (reading bytes) = false
 asks (insert key measure) = false
 asks (delete key) = false
@@ -137,15 +138,15 @@ callFor (inserting key) = insert key unmeasured
 callFor (deleting key) = delete key
 callFor (lookingUp key) = lookup key
 
--- "In a history a load counts as its set-up and operations."
+-- "In a history a load counts as its set-up and operations" (02, N1); "loads use salt zero" (02, N9).
 abbrev pub callsOfLoad : ℕ → ℕ → ℕ → List Call
-callsOfLoad order seed count = setUp order ∷ map callFor (operations seed count)
+callsOfLoad order seed count = setUp order 0 ∷ map callFor (operations seed count)
 
 -- The calls that a call stands for: an accepted load for its set-up and operations, a refused one, which changes nothing, for none,
 -- and any other for itself.
 abbrev pub standsFor : Call → List Call
-standsFor (setUp order) = setUp order ∷ []
-standsFor (build order list lengths corrections) = build order list lengths corrections ∷ []
+standsFor (setUp order salt) = setUp order salt ∷ []
+standsFor (build order salt list lengths corrections) = build order salt list lengths corrections ∷ []
 standsFor (reading bytes) = reading bytes ∷ []
 standsFor (insert key measure) = insert key measure ∷ []
 standsFor (delete key) = delete key ∷ []
@@ -164,16 +165,16 @@ spelledOut calls = flatMap standsFor calls
 -- ---- histories
 -- How a history begins: with a set-up, or with a load, which "counts as its set-up and operations".
 pub data Opening : Type 0 where
-  bySetUp : (order : ℕ) → Opening
+  bySetUp : (order : ℕ) → (salt : ℕ) → Opening
   byLoad : (order : ℕ) → (seed : ℕ) → (count : ℕ) → Opening
 
 abbrev pub opened : Opening → Call
-opened (bySetUp order) = setUp order
+opened (bySetUp order salt) = setUp order salt
 opened (byLoad order seed count) = load order seed count
 
 -- It is accepted, over any words of a table: 2 does not apply.
 abbrev pub Accepted : Opening → Type 0
-Accepted (bySetUp order) = newOrder order ≡ true
+Accepted (bySetUp order salt) = newOrder order ≡ true
 Accepted (byLoad order seed count) = newOrder order ≡ true
 
 -- "Its first call is an accepted set-up, over any words", or an accepted load.

@@ -15,7 +15,7 @@ use Rattle.call_batch.specs.declared.Question.{Question}
 use Rattle.history.specs.Call.{Call, setUp, build, reading, insert, delete, lookup, range, writing, step, load, batch, printing, IsWord, IsCorrection, Lent, History, callsOf}
 use Rattle.history.specs.Theorems.{Table}
 
--- "A table has M slots, M from 1 to 4,096, and lives in lent 64-bit words" (01); "the table is 3 + 8·M words" (02, N4): any words of that
+-- "A table has M slots, M from 1 to 4,096, and lives in lent 64-bit words" (01); "its length is 4 + 8·M" (02, N9): any words of that
 -- number are a table.
 abbrev pub EveryTable : Type 0
 EveryTable = (many : ℕ) (words : List ℕ) → 1 ≤ many → many ≤ mostSlots → length words ≡ tableWords many → Table many words
@@ -26,9 +26,9 @@ pub record EveryCall : Type 0 where
   pub words : (n : ℕ) → n < 2 ^ 64 → IsWord n
   pub bytes : (b : ℕ) → b < 256 → IsByte b
   pub corrections : (z : ℤ) → negℤ (pos (2 ^ 31)) ≤ℤ z → z ≤ℤ pos (2 ^ 31 - 1) → IsCorrection z
-  pub set-ups : (order : ℕ) → IsWord order → Lent (setUp order)
-  pub builds : (order : ℕ) (list lengths : List ℕ) (corrections : List ℤ) → IsWord order → All IsWord list → All IsWord lengths → All IsCorrection corrections
-      → Lent (build order list lengths corrections)
+  pub set-ups : (order salt : ℕ) → IsWord order → IsWord salt → Lent (setUp order salt)
+  pub builds : (order salt : ℕ) (list lengths : List ℕ) (corrections : List ℤ) → IsWord order → IsWord salt → All IsWord list → All IsWord lengths → All IsCorrection corrections
+      → Lent (build order salt list lengths corrections)
   pub readings : (image : List ℕ) → All IsByte image → Lent (reading image)
   pub inserts : (key : ℕ) (measure : Measure) → IsWord key → IsWord (measure .length) → IsCorrection (measure .correction) → Lent (insert key measure)
   pub deletes : (key : ℕ) → IsWord key → Lent (delete key)
@@ -42,7 +42,7 @@ pub record EveryCall : Type 0 where
 
 -- "Its first call is an accepted set-up", or an accepted load: every such list of calls is a history.
 pub record EveryHistory : Type 0 where
-  pub by-set-up : (order : ℕ) (later : List Call) → leastOrder ≤ order → order ≤ greatestOrder → All Lent later
-      → (history : History) × (callsOf history ≡ setUp order ∷ later)
+  pub by-set-up : (order salt : ℕ) (later : List Call) → leastOrder ≤ order → order ≤ greatestOrder → IsWord salt → All Lent later
+      → (history : History) × (callsOf history ≡ setUp order salt ∷ later)
   pub by-load : (order seed count : ℕ) (later : List Call) → leastOrder ≤ order → order ≤ greatestOrder → IsWord seed → count < 2 ^ 16 → All Lent later
       → (history : History) × (callsOf history ≡ load order seed count ∷ later)

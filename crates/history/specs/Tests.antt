@@ -18,7 +18,7 @@ use Rattle.history.specs.Call.{IsWord}
 abbrev pub SoundTested : Type 0
 SoundTested = (words : List ℕ) → All IsWord words → ((isSound words ≡ true) ↔ Sound words)
 
--- The bytes are "one that the writer makes for" some "order and" some "set of at most 4,096 keys".
+-- The bytes are "one that the writer makes for" some "order and" some "set of at most 4,096 keys", and for some salt.
 pub record IsImage (bytes : List ℕ) : Type 0 where
   pub contents : Contents
   pub valid : Valid mostSlots contents

@@ -22,20 +22,20 @@ use Rattle.history.specs.Call.{Call, load, asks, Opening, opened, Accept
 use Rattle.image.specs.Layout.{IsByte}
 use Rattle.history.specs.Book.{listed, withKey, withoutKey, refusalBy, note, notes, bookOf, replyBy, correctionBy, outputBy, placeBy, linesBy}
 
--- "A table has M slots, M from 1 to 4,096, and lives in lent 64-bit words" (01); "the table is 3 + 8·M words" (02, N4): any words of that
--- number.
+-- "A table has M slots, M from 1 to 4,096, and lives in lent 64-bit words" (01); "its length is 4 + 8·M" (02, N9): any words of that number.
 pub record Table (many : ℕ) (words : List ℕ) : Type 0 where
   -- "M from 1"
   pub some : 1 ≤ many
   -- "to 4,096"
   pub most : many ≤ mostSlots
-  -- "3 + 8·M words"
+  -- "4 + 8·M"
   pub long : length words ≡ tableWords many
 
--- The same order and the same set, "one of keys with their measures": the same keys, and for each key the same measure.
+-- The same order, the same salt and the same set, "one of keys with their measures": the same keys, and for each key the same measure.
 abbrev pub Agree : Contents → Contents → Type 0
 Agree c d =
     (c .order ≡ d .order)
+    × (c .salt ≡ d .salt)
     × ((key : ℕ) → member key (keysIn c) ≡ member key (keysIn d))
     × ((key : ℕ) → measureIn (c .entries) key ≡ measureIn (d .entries) key)
 
@@ -46,8 +46,9 @@ tableAfter history words = runs (callsOf history) words
 abbrev pub bookAfter : ℕ → History → Contents
 bookAfter many history = bookOf many (callsOf history)
 
--- ---- Demand 3: "a set, the book's too, is now one of keys with their measures" (02, N4)
--- After every history, over any words, the table is in every word the one built afresh from its book's order and set, which has at
+-- ---- Demand 3: "a set, the book's too, is now one of keys with their measures" (02, N4); "the book also keeps the salt, as the calls give it,
+-- and its fresh table has that salt" (02, N9)
+-- After every history, over any words, the table is in every word the one built afresh from its book's order, salt and set, which has at
 -- most M keys.
 abbrev pub TableFromBook : Type 0
 TableFromBook =
@@ -55,7 +56,7 @@ TableFromBook =
     → (tableAfter history words ≡ fresh many (bookAfter many history)) × Valid many (bookAfter many history)
 
 -- After two histories on equally many slots, over any words each, the tables agree in every word exactly when their books agree in
--- order and set, the measures included.
+-- order, salt and set, the measures included; so "histories are compared where their books end with one salt", and where they do not.
 abbrev pub TablesAgree : Type 0
 TablesAgree =
     (many : ℕ) (words others : List ℕ) (one another : History) → Table many words → Table many others
@@ -69,8 +70,8 @@ writtenImage words lent = take (getD (writeReply words lent .numbers) 0 0) (writ
 abbrev pub ImageWritten : Type 0
 ImageWritten = (words lent : List ℕ) (sound : Sound words) → writeRefusal words lent ≡ 0 → writtenImage words lent ≡ imageOf (sound .contents)
 
--- Of every two sound tables, of any numbers of slots, the images agree in every byte exactly when the tables agree in order and set, the
--- measures included.
+-- Of every two sound tables, of any numbers of slots, the images agree in every byte exactly when the tables agree in order, salt and set, the
+-- measures included: "matching images now also mean matching salts".
 abbrev pub ImagesAgree : Type 0
 ImagesAgree =
     (words others lent room : List ℕ) (sound : Sound words) (right : Sound others) → writeRefusal words lent ≡ 0 → writeRefusal others room ≡ 0
@@ -84,7 +85,7 @@ HistoriesImagesAgree =
     → ((writtenImage (tableAfter one words) lent ≡ writtenImage (tableAfter another others) room)
     ↔ Agree (bookAfter many one) (bookAfter several another))
 
--- "Demand 3 is a single claim about whole histories": order, keys and measures at once.
+-- "Demand 3 is a single claim about whole histories": order, salt, keys and measures at once.
 pub record HistoryIndependence : Type 0 where
   pub table-from-book : TableFromBook
   pub tables-agree : TablesAgree
@@ -141,10 +142,10 @@ pub record LoadsSpelledOut : Type 0 where
   pub book : (many : ℕ) (history : History) → bookOf many (spelledOut (callsOf history)) ≡ bookAfter many history
 
 -- ---- what the claims stand on
--- Order and set agree exactly when order and list of entries, by rising key, do.
+-- Order, salt and set agree exactly when order, salt and list of entries, by rising key, do.
 abbrev pub AgreeAsLists : Type 0
 AgreeAsLists =
-    (many several : ℕ) (c d : Contents) → Valid many c → Valid several d → (Agree c d ↔ ((c .order ≡ d .order) × (c .entries ≡ d .entries)))
+    (many several : ℕ) (c d : Contents) → Valid many c → Valid several d → (Agree c d ↔ ((c .order ≡ d .order) × (c .salt ≡ d .salt) × (c .entries ≡ d .entries)))
 
 -- The writing of a sound table is accepted exactly when the output has room for the image.
 abbrev pub WritingAccepted : Type 0
@@ -154,10 +155,10 @@ WritingAccepted =
 -- The book's rules are what the documents call them.
 pub record BookRules : Type 0 where
   -- "the listed keys", and where the list rises and neither a length nor a correction is "missing or left over", each with those beside it
-  pub lists : (order : ℕ) (list lengths : List ℕ) (corrections : List ℤ) → keysIn (listed order list lengths corrections) ≡ list
-  pub lists-measures : (order : ℕ) (list lengths : List ℕ) (corrections : List ℤ) → Rising list → length lengths ≡ length list
+  pub lists : (order salt : ℕ) (list lengths : List ℕ) (corrections : List ℤ) → keysIn (listed order salt list lengths corrections) ≡ list
+  pub lists-measures : (order salt : ℕ) (list lengths : List ℕ) (corrections : List ℤ) → Rising list → length lengths ≡ length list
       → length corrections ≡ length list → (i : ℕ) → i < length list
-      → measureIn (listed order list lengths corrections .entries) (getD list i 0) ≡ record { length = getD lengths i 0; correction = getD corrections i (pos 0) }
+      → measureIn (listed order salt list lengths corrections .entries) (getD list i 0) ≡ record { length = getD lengths i 0; correction = getD corrections i (pos 0) }
   -- "the key joins the set", and where it was not in it, it has the given measure, and every other key its own
   pub joins : (key other : ℕ) (measure : Measure) (book : Contents)
       → member other (keysIn (withKey key measure book)) ≡ (eqb other key || member other (keysIn book))
@@ -167,7 +168,7 @@ pub record BookRules : Type 0 where
   pub leaves : (key other : ℕ) (book : Contents) → member other (keysIn (withoutKey key book)) ≡ (not (eqb other key) && member other (keysIn book))
   pub leaves-measures : (key other : ℕ) (book : Contents)
       → measureIn (withoutKey key book .entries) other ≡ cond (eqb other key) unmeasured (measureIn (book .entries) other)
-  -- "the order and set whose image the bytes are", where 6 does not apply
+  -- "the order and set whose image the bytes are", with their salt, where 6 does not apply
   pub reads : (bytes : List ℕ) → All IsByte bytes → isImage bytes ≡ true → Valid mostSlots (readImage bytes) × (bytes ≡ imageOf (readImage bytes))
-  -- 6 does not apply to an image "that the writer makes for any order and any set of at most 4,096 keys", and that order and set are read
+  -- 6 does not apply to an image "that the writer makes for any order and any set of at most 4,096 keys", and that order, salt and set are read
   pub read-back : (c : Contents) → Valid mostSlots c → (isImage (imageOf c) ≡ true) × (readImage (imageOf c) ≡ c)

@@ -15,7 +15,7 @@ use Rattle.history_replay.specs.Script.{callOf, callsIn}
 
 -- ---- one call
 module _ (kind value : ℕ) (words : List ℕ) where
-  pub sets-up : kind ≡ 0 → setUpAfter words value ≡ run (callOf kind value) words
+  pub sets-up : kind ≡ 0 → setUpAfter words value 0 ≡ run (callOf kind value) words
   unfolding callOf
   sets-up e = rw (eq-eqb kind 0 e) refl
 

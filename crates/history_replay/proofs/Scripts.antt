@@ -17,7 +17,7 @@ use Rattle.history_replay.specs.Script.{callOf, callsIn, BuiltFromBook}
 call-lent : (kind value : ℕ) → IsWord value → Lent (callOf kind value)
 unfolding callOf
 call-lent kind value word =
-    by-test (eqb kind 0) (λ e. rw e word)
+    by-test (eqb kind 0) (λ e. rw e (word, omega arith))
     (λ e. rw e (by-test (eqb kind 1) (λ f. rw f (word, omega arith, (leZ-yes tt, leZ-yes tt)))
     (λ f. rw f (by-test (eqb kind 2) (λ g. rw g word) (λ g. rw g word)))))
 
@@ -30,6 +30,6 @@ pub built-from-book : (script before after : List ℕ) → All IsWord script →
 unfolding setUpReply
 built-from-book script before after words ran many order later table begins accepted =
     let lent = subst (All Lent) begins (calls-lent script words) in
-    let right = first-accepted many before (bySetUp order) table .0 accepted in
-    let history : History = record { first = bySetUp order; accepted = right; later = later; lent = lent } in
+    let right = first-accepted many before (bySetUp order 0) table .0 accepted in
+    let history : History = record { first = bySetUp order 0; accepted = right; later = later; lent = lent } in
     (history, sym begins, ran ∙ ap (λ (calls : List Call). runs calls before) begins ∙ table-from-book many before history table .0)

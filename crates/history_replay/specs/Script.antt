@@ -11,9 +11,9 @@ use Rattle.history.specs.Call.{Call, History, callsOf}
 use Rattle.history.specs.Call.Call.{setUp, insert, delete, lookup}
 use Rattle.history.specs.Theorems.{Table, bookAfter}
 
--- 0 is a set-up, 1 an insert of a key that is not measured, 2 a delete, and any other number a lookup.
+-- 0 is a set-up with salt zero, 1 an insert of a key that is not measured, 2 a delete, and any other number a lookup.
 unfoldable pub callOf : ℕ → ℕ → Call
-callOf kind value = cond (eqb kind 0) (setUp value) (cond (eqb kind 1) (insert value unmeasured) (cond (eqb kind 2) (delete value) (lookup value)))
+callOf kind value = cond (eqb kind 0) (setUp value 0) (cond (eqb kind 1) (insert value unmeasured) (cond (eqb kind 2) (delete value) (lookup value)))
 
 -- The calls of a script, in their order; a word left over at its end is no call.
 abbrev pub callsIn : List ℕ → List Call
@@ -25,5 +25,5 @@ callsIn (kind ∷ value ∷ rest) = callOf kind value ∷ callsIn rest
 -- built afresh from that history's book.
 abbrev pub BuiltFromBook : List ℕ → List ℕ → List ℕ → Type 0
 BuiltFromBook script before after =
-    (many order : ℕ) (later : List Call) → Table many before → callsIn script ≡ setUp order ∷ later → setUpRefusal before order ≡ 0
+    (many order : ℕ) (later : List Call) → Table many before → callsIn script ≡ setUp order 0 ∷ later → setUpRefusal before order ≡ 0
     → (history : History) × (callsOf history ≡ callsIn script) × (after ≡ fresh many (bookAfter many history))

@@ -10,12 +10,12 @@ pub const INSERT: u64 = 1;
 
 pub const DELETE: u64 = 2;
 
-// One call, with its order or key; a key that is inserted is not measured.
+// One call, with its order or key; a set-up has salt zero, and a key that is inserted is not measured.
 fn run_call(table: &mut [u64], kind: u64, value: u64)
     ensures { λ _. ⌜ now (table .exit) ≡ run (callOf kind value) (now (table .entry)) ⌝ }
 {
     if kind == SET_UP {
-        index::set_up(table, value);
+        index::set_up(table, value, 0);
         return;
     }
     if kind == INSERT {

@@ -4,20 +4,21 @@ use mathlib.Core.Bool.{Bool, true, _&&_}
 use mathlib.Core.List.{List, Permᴰ·symm}
 use mathlib.Core.Path.{_≡_, refl, ap, _∙_}
 use Prim.Native.Nat.{ℕ, zero, suc, _^_, _≤_, _<_}
+use native.Mathlib.Omega.{arith}
 use lib.Dec.{leb}
 use lib.ListN.{length, drop}
 use borrow.Author.Tests.{leb-true, le-leb}
 use Rattle.lists.specs.Lists.{All, nonzero, every, same, risesB, sortBy}
-use Rattle.lists.proofs.Tests.{nonzero-says, nonzero-when, and-left, and-right, and-both}
+use Rattle.lists.proofs.Tests.{by-test, nonzero-says, nonzero-when, and-left, and-right, and-both}
 use Rattle.lists.proofs.Keep.{all-map, all-both, all-mapped, all-append, every-says, every-when}
 use Rattle.lists.proofs.Membership.{same-says, same-when}
 use Rattle.lists.proofs.Rising.{rises-says, rises-when}
 use Rattle.lists.proofs.Sorting.{all-permuted, sortBy-permutes}
 use Rattle.treap.specs.Image.{countBytes, keyBytes}
 use Rattle.table.specs.Layout.{mostSlots}
-use Rattle.table.specs.Contents.{Contents, IsKey, Valid, tableOrder, keysIn, keyBelow, rightMeasure}
-use Rattle.image.specs.Layout.{headerBytes, blockBytes, blocksAt, heldAt, keyAt, IsByte}
-use Rattle.image.specs.Image.{imageOf, fieldAt, nodeSpan, entryShown, nodeEntries, nodesSpan, blockEntries, readImage, isImage}
+use Rattle.table.specs.Contents.{Contents, IsKey, IsSalt, Valid, tableOrder, keysIn, keyBelow, rightMeasure}
+use Rattle.image.specs.Layout.{saltBytes, blockBytes, blocksAt, saltAt, heldAt, keyAt, IsByte}
+use Rattle.image.specs.Image.{imageOf, isSalted, headerSpan, saltShown, fieldAt, nodeSpan, entryShown, nodeEntries, nodesSpan, blockEntries, readImage, isImage}
 use Rattle.image.proofs.Bytes.{all-drop, field-fits}
 use Rattle.image.proofs.Reading.{read-of-image}
 
@@ -46,10 +47,14 @@ blockEntries-sized (suc many) bytes a =
 pub shown-sized : (bytes : List ℕ) → All IsByte bytes → All (λ k. k < 2 ^ 64) (keysIn (readImage bytes))
 unfolding readImage
 shown-sized bytes a =
-    let shown = blockEntries (fieldAt blocksAt countBytes bytes) (drop headerBytes bytes) in
+    let shown = blockEntries (fieldAt blocksAt countBytes bytes) (drop (headerSpan bytes) bytes) in
     all-mapped (λ k. k < 2 ^ 64) (λ e. e .key) (sortBy keyBelow shown)
     (all-permuted (λ e. e .key < 2 ^ 64) (Permᴰ·symm (sortBy-permutes keyBelow shown))
-    (blockEntries-sized (fieldAt blocksAt countBytes bytes) (drop headerBytes bytes) (all-drop IsByte headerBytes bytes a)))
+    (blockEntries-sized (fieldAt blocksAt countBytes bytes) (drop (headerSpan bytes) bytes) (all-drop IsByte (headerSpan bytes) bytes a)))
+
+salt-sized : (bytes : List ℕ) → All IsByte bytes → IsSalt (readImage bytes .salt)
+unfolding readImage saltShown
+salt-sized bytes a = by-test (isSalted bytes) (λ e. rw e (field-fits saltAt saltBytes bytes a)) (λ e. rw e (omega arith))
 
 -- ---- the test
 module _ (bytes : List ℕ) (passed : isImage bytes ≡ true) where
@@ -77,6 +82,7 @@ module _ (bytes : List ℕ) (passed : isImage bytes ≡ true) where
   is-image-valid a =
       record {
         order-right = and-left (tableOrder (readImage bytes .order)) _ passed;
+        salt-right = salt-sized bytes a;
         keys-right = all-both (λ k. 1 ≤ k) (λ k. k < 2 ^ 64) (keysIn (readImage bytes))
             (all-map (λ k. nonzero k ≡ true) (λ k. 1 ≤ k) nonzero-says (keysIn (readImage bytes)) (every-says nonzero (keysIn (readImage bytes)) (and-left (every nonzero (keysIn (readImage bytes))) _ after-rising)))
             (shown-sized bytes a);

@@ -14,21 +14,20 @@ use Rattle.lists.proofs.FlatMap.{length-flatMap-part}
 use Rattle.lists.proofs.Sorting.{sortBy-permutes}
 use Rattle.measure.specs.Measure.{Measure, isMeasure, storedCorrection}
 use Rattle.measure.proofs.Stored.{read-back, measure-stored, stored-bounds}
-use Rattle.priority.specs.Priority.{priorityOf}
 use Rattle.treap.specs.Treap.{top, leftLink, rightLink}
 use Rattle.treap.specs.Levels.{rank, count}
 use Rattle.treap.specs.Blocks.{Block, blocks}
-use Rattle.treap.specs.Image.{orderBytes, countBytes, blockRecord, nodeOf, blockPart, image}
+use Rattle.treap.specs.Image.{orderBytes, countBytes, blockRecord, nodeOf, blockPart}
 use Rattle.treap_structure.proofs.Blocks.{Holds, blocks-hold}
 use Rattle.image.proofs.ImageOrder.{before, image-order, held-total}
 use Rattle.table.specs.Layout.{mostSlots}
-use Rattle.table.specs.Contents.{Entry, Contents, IsKey, Valid, keysIn, measureIn, keyBelow}
+use Rattle.table.specs.Contents.{Entry, Contents, IsKey, Valid, keysIn, priorityIn, measureIn, keyBelow}
 use Rattle.table.proofs.Orders.{order-within, order-wide}
 use Rattle.table.proofs.Entries.{found-right, entryAt, entries-by-keys, sorted-entries}
-use Rattle.image.specs.Layout.{headerBytes, blockBytes, orderAt, blocksAt, heldAt}
-use Rattle.image.specs.Image.{imageOf, fieldAt, nodeSpan, entryShown, nodeEntries, nodesSpan, blockEntries, readImage}
-use Rattle.image.proofs.Records.{header-order, header-blocks, header-dropped, block-held, block-dropped, node-length, node-span, node-shown}
-use Rattle.image.proofs.Lengths.{blocks-fit}
+use Rattle.image.specs.Layout.{headBytes, blockBytes, orderAt, blocksAt, heldAt}
+use Rattle.image.specs.Image.{imageOf, headerSpan, saltShown, fieldAt, nodeSpan, entryShown, nodeEntries, nodesSpan, blockEntries, readImage}
+use Rattle.image.proofs.Records.{header-order, header-blocks, header-span, header-salt, header-dropped, block-held, block-dropped, node-length, node-span, node-shown}
+use Rattle.image.proofs.Lengths.{image-is, blocks-fit}
 
 -- A block whose records show its keys.
 pub record Readable (b : Block) : Type 0 where
@@ -131,58 +130,70 @@ module _ (c : Contents) (valid : Valid mostSlots c) where
   wide : 2 ≤ c .order
   wide = order-wide (c .order) (valid .order-right)
 
-  pub blocks-readable : All Readable (blocks (c .order) priorityOf (keysIn c))
+  pub blocks-readable : All Readable (blocks (c .order) (priorityIn c) (keysIn c))
   blocks-readable =
-      let bs = blocks (c .order) priorityOf (keysIn c) in
-      let total = held-total (c .order) priorityOf wide (keysIn c) (valid .keys-rise) in
+      let bs = blocks (c .order) (priorityIn c) (keysIn c) in
+      let total = held-total (c .order) (priorityIn c) wide (keysIn c) (valid .keys-rise) in
       let fit : length (keysIn c) ≤ 4096 = valid .keys-fit in
-      all-map (λ b. (length (b .held) ≤ length (flatMap (λ d. d .held) bs)) × Holds (c .order) priorityOf (keysIn c) wide (valid .keys-rise) b) Readable
+      all-map (λ b. (length (b .held) ≤ length (flatMap (λ d. d .held) bs)) × Holds (c .order) (priorityIn c) (keysIn c) wide (valid .keys-rise) b) Readable
       (λ b h. record {
         few = let part : length (b .held) ≤ length (flatMap (λ d. d .held) bs) = h .0 in omega arith;
         sized = all-map (λ k. member k (keysIn c) ≡ true) (λ k. k < 2 ^ 64) (λ k m. all-member IsKey (keysIn c) k (valid .keys-right) m .1) (b .held) (h .1 .keys-of);
       })
-      bs (all-both (λ b. length (b .held) ≤ length (flatMap (λ d. d .held) bs)) (Holds (c .order) priorityOf (keysIn c) wide (valid .keys-rise)) bs (length-flatMap-part (λ d. d .held) bs) (blocks-hold (c .order) priorityOf (keysIn c) wide (valid .keys-rise)))
+      bs (all-both (λ b. length (b .held) ≤ length (flatMap (λ d. d .held) bs)) (Holds (c .order) (priorityIn c) (keysIn c) wide (valid .keys-rise)) bs (length-flatMap-part (λ d. d .held) bs) (blocks-hold (c .order) (priorityIn c) (keysIn c) wide (valid .keys-rise)))
 
   -- the header's fields, and what follows the header
   order-read : fieldAt orderAt orderBytes (imageOf c) ≡ c .order
-  unfolding imageOf image
   order-read =
-      let bs = blocks (c .order) priorityOf (keysIn c) in
-      header-order (c .order) (length (keysIn c)) (length bs) (top priorityOf (keysIn c)) (flatMap (blockPart (c .order) priorityOf (measureIn (c .entries)) (keysIn c)) bs) (order-within (c .order) (valid .order-right) .1)
+      let bs = blocks (c .order) (priorityIn c) (keysIn c) in
+      ap (fieldAt orderAt orderBytes) (image-is c)
+      ∙ header-order (c .salt) (c .order) (length (keysIn c)) (length bs) (top (priorityIn c) (keysIn c)) (flatMap (blockPart (c .order) (priorityIn c) (measureIn (c .entries)) (keysIn c)) bs) (order-within (c .order) (valid .order-right) .1)
 
-  pub number-read : fieldAt blocksAt countBytes (imageOf c) ≡ length (blocks (c .order) priorityOf (keysIn c))
-  unfolding imageOf image
+  salt-read : saltShown (imageOf c) ≡ c .salt
+  salt-read =
+      let bs = blocks (c .order) (priorityIn c) (keysIn c) in
+      ap saltShown (image-is c)
+      ∙ header-salt (c .salt) (c .order) (length (keysIn c)) (length bs) (top (priorityIn c) (keysIn c)) (flatMap (blockPart (c .order) (priorityIn c) (measureIn (c .entries)) (keysIn c)) bs) (valid .salt-right)
+
+  pub number-read : fieldAt blocksAt countBytes (imageOf c) ≡ length (blocks (c .order) (priorityIn c) (keysIn c))
   number-read =
-      let bs = blocks (c .order) priorityOf (keysIn c) in
+      let bs = blocks (c .order) (priorityIn c) (keysIn c) in
       let fit : length (keysIn c) ≤ 4096 = valid .keys-fit in
-      header-blocks (c .order) (length (keysIn c)) (length bs) (top priorityOf (keysIn c)) (flatMap (blockPart (c .order) priorityOf (measureIn (c .entries)) (keysIn c)) bs) (omega (arith, blocks-fit c valid))
+      ap (fieldAt blocksAt countBytes) (image-is c)
+      ∙ header-blocks (c .salt) (c .order) (length (keysIn c)) (length bs) (top (priorityIn c) (keysIn c)) (flatMap (blockPart (c .order) (priorityIn c) (measureIn (c .entries)) (keysIn c)) bs) (omega (arith, blocks-fit c valid))
 
-  pub parts-read : drop headerBytes (imageOf c) ≡ flatMap (blockPart (c .order) priorityOf (measureIn (c .entries)) (keysIn c)) (blocks (c .order) priorityOf (keysIn c))
-  unfolding imageOf image
+  pub span-read : headerSpan (imageOf c) ≡ headBytes (c .salt)
+  span-read =
+      let bs = blocks (c .order) (priorityIn c) (keysIn c) in
+      ap headerSpan (image-is c)
+      ∙ header-span (c .salt) (c .order) (length (keysIn c)) (length bs) (top (priorityIn c) (keysIn c)) (flatMap (blockPart (c .order) (priorityIn c) (measureIn (c .entries)) (keysIn c)) bs)
+
+  pub parts-read : drop (headerSpan (imageOf c)) (imageOf c) ≡ flatMap (blockPart (c .order) (priorityIn c) (measureIn (c .entries)) (keysIn c)) (blocks (c .order) (priorityIn c) (keysIn c))
   parts-read =
-      let bs = blocks (c .order) priorityOf (keysIn c) in
-      header-dropped (c .order) (length (keysIn c)) (length bs) (top priorityOf (keysIn c)) (flatMap (blockPart (c .order) priorityOf (measureIn (c .entries)) (keysIn c)) bs)
+      let bs = blocks (c .order) (priorityIn c) (keysIn c) in
+      ap (λ (bytes : List ℕ). drop (headerSpan bytes) bytes) (image-is c)
+      ∙ header-dropped (c .salt) (c .order) (length (keysIn c)) (length bs) (top (priorityIn c) (keysIn c)) (flatMap (blockPart (c .order) (priorityIn c) (measureIn (c .entries)) (keysIn c)) bs)
 
   -- the measure of every key is within the rules
   pub measured-right : (k : ℕ) → isMeasure (measureIn (c .entries) k) ≡ true
   measured-right k = found-right (c .entries) k (valid .measures-right)
 
   -- the entries as they stand in the image
-  pub entries-read : blockEntries (fieldAt blocksAt countBytes (imageOf c)) (drop headerBytes (imageOf c))
-      ≡ map (entryAt (c .entries)) (flatMap (λ b. b .held) (blocks (c .order) priorityOf (keysIn c)))
+  pub entries-read : blockEntries (fieldAt blocksAt countBytes (imageOf c)) (drop (headerSpan (imageOf c)) (imageOf c))
+      ≡ map (entryAt (c .entries)) (flatMap (λ b. b .held) (blocks (c .order) (priorityIn c) (keysIn c)))
   entries-read =
-      let bs = blocks (c .order) priorityOf (keysIn c) in
-      let parts = flatMap (blockPart (c .order) priorityOf (measureIn (c .entries)) (keysIn c)) bs in
+      let bs = blocks (c .order) (priorityIn c) (keysIn c) in
+      let parts = flatMap (blockPart (c .order) (priorityIn c) (measureIn (c .entries)) (keysIn c)) bs in
       ap₂ (λ (n : ℕ) (bytes : List ℕ). blockEntries n bytes) number-read (parts-read ∙ sym (append-nil parts))
-      ∙ blocks-read (c .order) priorityOf (measureIn (c .entries)) (keysIn c) measured-right bs blocks-readable []
+      ∙ blocks-read (c .order) (priorityIn c) (measureIn (c .entries)) (keysIn c) measured-right bs blocks-readable []
 
-  keys-permuted : List·Permᴰ (keysIn c) (flatMap (λ b. b .held) (blocks (c .order) priorityOf (keysIn c)))
+  keys-permuted : List·Permᴰ (keysIn c) (flatMap (λ b. b .held) (blocks (c .order) (priorityIn c) (keysIn c)))
   keys-permuted =
-      subst (List·Permᴰ (keysIn c)) (sym (image-order (c .order) priorityOf wide (keysIn c) (valid .keys-rise))) (Permᴰ·symm (sortBy-permutes (before (c .order) priorityOf (keysIn c)) (keysIn c)))
+      subst (List·Permᴰ (keysIn c)) (sym (image-order (c .order) (priorityIn c) wide (keysIn c) (valid .keys-rise))) (Permᴰ·symm (sortBy-permutes (before (c .order) (priorityIn c) (keysIn c)) (keysIn c)))
 
-  entries-sorted : sortBy keyBelow (map (entryAt (c .entries)) (flatMap (λ b. b .held) (blocks (c .order) priorityOf (keysIn c)))) ≡ c .entries
+  entries-sorted : sortBy keyBelow (map (entryAt (c .entries)) (flatMap (λ b. b .held) (blocks (c .order) (priorityIn c) (keysIn c)))) ≡ c .entries
   entries-sorted =
-      let shown = map (entryAt (c .entries)) (flatMap (λ b. b .held) (blocks (c .order) priorityOf (keysIn c))) in
+      let shown = map (entryAt (c .entries)) (flatMap (λ b. b .held) (blocks (c .order) (priorityIn c) (keysIn c))) in
       sorted-entries (c .entries) shown
       (subst (λ (es : List Entry). List·Permᴰ es shown) (entries-by-keys (c .entries) (valid .keys-rise)) (Permᴰ·map (entryAt (c .entries)) keys-permuted))
       (valid .keys-rise)
@@ -191,7 +202,7 @@ module _ (c : Contents) (valid : Valid mostSlots c) where
   unfolding readImage
   read-of-image =
       let same-entries : readImage (imageOf c) .entries ≡ c .entries = ap (sortBy keyBelow) entries-read ∙ entries-sorted in
-      λ i. record { order = order-read i; entries = same-entries i }
+      λ i. record { order = order-read i; salt = salt-read i; entries = same-entries i }
 
 -- equal images mean equal contents
 pub image-unique : (c d : Contents) → Valid mostSlots c → Valid mostSlots d → imageOf c ≡ imageOf d → c ≡ d

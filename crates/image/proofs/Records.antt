@@ -2,11 +2,12 @@
 -- number, where it says so, that it fits its field.
 use mathlib.Core.Bool.{false}
 use mathlib.Core.List.{List, _++_}
-use mathlib.Core.Path.{_≡_, refl}
-use Prim.Native.Nat.{ℕ, _+_, _^_, _<_}
+use mathlib.Core.Path.{_≡_, refl, sym, ap, _∙_}
+use Prim.Native.Nat.{ℕ, _+_, _^_, _<_, _≤_}
 use native.Mathlib.Omega.{arith}
 use lib.Dec.{eqb}
-use lib.ListN.{length, drop}
+use lib.ListN.{length, take, drop}
+use lib.Seq.{drop-at}
 use borrow.Author.Tests.{eqb-true}
 use Rattle.lists.specs.Lists.{All, nonzero}
 use Rattle.lists.proofs.Tests.{by-test}
@@ -14,27 +15,54 @@ use Rattle.lists.proofs.Keep.{all-append}
 use Rattle.measure.specs.Measure.{measureFrom}
 use Rattle.measure.proofs.Stored.{from-nothing}
 use Rattle.treap.specs.Image.{littleEndian, orderBytes, countBytes, keyBytes, lengthBytes, correctionBytes, headerMark, blockMark, nodeMark, measuredMark, headerRecord, blockRecord, nodeFields, nodeRecord}
-use Rattle.image.specs.Layout.{headerBytes, blockBytes, recordBytes, orderAt, blocksAt, heldAt, keyAt, lengthAt, correctionAt, IsByte}
-use Rattle.image.specs.Image.{fieldAt, isMeasured, nodeSpan, entryShown}
-use Rattle.image.proofs.Bytes.{littleEndian-bytes, number-of-bytes}
+use Rattle.image.specs.Layout.{headerBytes, saltBytes, headBytes, blockBytes, recordBytes, orderAt, blocksAt, heldAt, keyAt, lengthAt, correctionAt, IsByte}
+use Rattle.image.specs.Image.{saltedMark, salted, isSalted, headerSpan, saltShown, fieldAt, isMeasured, nodeSpan, entryShown}
+use Rattle.image.proofs.Bytes.{littleEndian-bytes, number-of-bytes, all-take, all-drop}
 
--- ---- the header
-module _ (order n b root : ℕ) where
-  pub header-length : length (headerRecord order n b root) ≡ headerBytes
-  unfolding headerRecord
-  header-length = refl
+-- ---- the header, with its salt
+pub head-at-most : (salt : ℕ) → headBytes salt ≤ headerBytes + saltBytes
+head-at-most salt = by-test (eqb salt 0) (λ e. rw e (omega arith)) (λ e. rw e (omega arith))
 
-  pub header-order : (rest : List ℕ) → order < 256 → fieldAt orderAt orderBytes (headerRecord order n b root ++ rest) ≡ order
-  unfolding headerRecord fieldAt
-  header-order rest h = number-of-bytes orderBytes order h
+pub head-at-least : (salt : ℕ) → headerBytes ≤ headBytes salt
+head-at-least salt = by-test (eqb salt 0) (λ e. rw e (omega arith)) (λ e. rw e (omega arith))
 
-  pub header-blocks : (rest : List ℕ) → b < 65536 → fieldAt blocksAt countBytes (headerRecord order n b root ++ rest) ≡ b
-  unfolding headerRecord fieldAt
-  header-blocks rest h = number-of-bytes countBytes b h
+module _ (salt order n b root : ℕ) where
+  abbrev head : List ℕ
+  head = salted salt (headerRecord order n b root)
 
-  pub header-dropped : (rest : List ℕ) → drop headerBytes (headerRecord order n b root ++ rest) ≡ rest
-  unfolding headerRecord
-  header-dropped rest = refl
+  pub header-length : length head ≡ headBytes salt
+  unfolding headerRecord salted
+  header-length = by-test (eqb salt 0) (λ e. rw e) (λ e. rw e)
+
+  -- the salt changes nothing of what follows the header
+  pub header-first : (rest : List ℕ) → salted salt (headerRecord order n b root ++ rest) ≡ head ++ rest
+  unfolding headerRecord salted
+  header-first rest = by-test (eqb salt 0) (λ e. rw e) (λ e. rw e)
+
+  pub header-order : (rest : List ℕ) → order < 256 → fieldAt orderAt orderBytes (head ++ rest) ≡ order
+  unfolding headerRecord salted fieldAt
+  header-order rest h = by-test (eqb salt 0) (λ e. rw e (number-of-bytes orderBytes order h)) (λ e. rw e (number-of-bytes orderBytes order h))
+
+  pub header-blocks : (rest : List ℕ) → b < 65536 → fieldAt blocksAt countBytes (head ++ rest) ≡ b
+  unfolding headerRecord salted fieldAt
+  header-blocks rest h = by-test (eqb salt 0) (λ e. rw e (number-of-bytes countBytes b h)) (λ e. rw e (number-of-bytes countBytes b h))
+
+  header-marked : (rest : List ℕ) → isSalted (head ++ rest) ≡ nonzero salt
+  unfolding headerRecord salted isSalted
+  header-marked rest = by-test (eqb salt 0) (λ e. rw e) (λ e. rw e)
+
+  pub header-span : (rest : List ℕ) → headerSpan (head ++ rest) ≡ headBytes salt
+  unfolding headerSpan
+  header-span rest = rw (header-marked rest) (by-test (eqb salt 0) (λ e. rw e) (λ e. rw e))
+
+  pub header-salt : (rest : List ℕ) → salt < 2 ^ 64 → saltShown (head ++ rest) ≡ salt
+  unfolding saltShown headerRecord salted fieldAt
+  header-salt rest h =
+      rw (header-marked rest)
+      (by-test (eqb salt 0) (λ e. rw e (sym (eqb-true salt 0 e))) (λ e. rw e (number-of-bytes saltBytes salt h)))
+
+  pub header-dropped : (rest : List ℕ) → drop (headerSpan (head ++ rest)) (head ++ rest) ≡ rest
+  header-dropped rest = ap (λ (k : ℕ). drop k (head ++ rest)) (header-span rest) ∙ drop-at head rest (headBytes salt) header-length
 
 -- ---- a block's record
 module _ (leader level n : ℕ) where
@@ -92,13 +120,28 @@ module _ (key left right rank count long stored : ℕ) where
 both : (xs ys : List ℕ) → All IsByte xs → All IsByte ys → All IsByte (xs ++ ys)
 both = all-append IsByte
 
-pub header-bytes : (order n b root : ℕ) → All IsByte (headerRecord order n b root)
+record-bytes : (order n b root : ℕ) → All IsByte (headerRecord order n b root)
 unfolding headerRecord
-header-bytes order n b root =
+record-bytes order n b root =
     both (headerMark ++ littleEndian orderBytes order ++ littleEndian countBytes n ++ littleEndian countBytes b) (littleEndian keyBytes root)
     (both (headerMark ++ littleEndian orderBytes order ++ littleEndian countBytes n) (littleEndian countBytes b)
     (both (headerMark ++ littleEndian orderBytes order) (littleEndian countBytes n)
     (both headerMark (littleEndian orderBytes order) (omega arith) (littleEndian-bytes orderBytes order)) (littleEndian-bytes countBytes n)) (littleEndian-bytes countBytes b)) (littleEndian-bytes keyBytes root)
+
+pub salted-bytes : (salt : ℕ) (bytes : List ℕ) → All IsByte bytes → All IsByte (salted salt bytes)
+unfolding salted
+salted-bytes salt bytes h =
+    let fields = drop (length headerMark) (take headerBytes bytes) in
+    by-test (eqb salt 0) (λ e. rw e h)
+    (λ e.
+    rw e
+    (both (saltedMark ++ fields ++ littleEndian saltBytes salt) (drop headerBytes bytes)
+    (both (saltedMark ++ fields) (littleEndian saltBytes salt)
+    (both saltedMark fields (omega arith) (all-drop IsByte (length headerMark) (take headerBytes bytes) (all-take IsByte headerBytes bytes h)))
+    (littleEndian-bytes saltBytes salt)) (all-drop IsByte headerBytes bytes h)))
+
+pub header-bytes : (salt order n b root : ℕ) → All IsByte (salted salt (headerRecord order n b root))
+header-bytes salt order n b root = salted-bytes salt (headerRecord order n b root) (record-bytes order n b root)
 
 pub block-bytes : (leader level n : ℕ) → All IsByte (blockRecord leader level n)
 unfolding blockRecord

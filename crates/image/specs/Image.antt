@@ -2,19 +2,29 @@
 use mathlib.Core.Bool.{Bool, cond, _&&_}
 use mathlib.Core.List.{List, [], _∷_, _++_}
 use Prim.Native.Nat.{ℕ, zero, suc, _+_, _*_}
-use lib.Dec.{leb}
+use lib.Dec.{eqb, leb}
 use lib.ListN.{length, take, drop}
 use Rattle.lists.specs.Lists.{same, risesB, every, keep, nonzero, sortBy}
 use Rattle.measure.specs.Measure.{unmeasured, measureFrom}
-use Rattle.priority.specs.Priority.{priorityOf}
-use Rattle.treap.specs.Image.{image, orderBytes, countBytes, keyBytes, lengthBytes, correctionBytes, measuredMark}
+use Rattle.treap.specs.Image.{image, littleEndian, orderBytes, countBytes, keyBytes, lengthBytes, correctionBytes, headerMark, measuredMark}
 use Rattle.table.specs.Layout.{mostSlots}
-use Rattle.table.specs.Contents.{Entry, Contents, keysIn, measureIn, keyBelow, tableOrder, rightMeasure}
-use Rattle.image.specs.Layout.{headerBytes, blockBytes, nodeBytes, measureBytes, orderAt, blocksAt, heldAt, keyAt, lengthAt, correctionAt}
+use Rattle.table.specs.Contents.{Entry, Contents, keysIn, priorityIn, measureIn, keyBelow, tableOrder, rightMeasure}
+use Rattle.image.specs.Layout.{headerBytes, saltBytes, blockBytes, nodeBytes, measureBytes, orderAt, blocksAt, saltAt, heldAt, keyAt, lengthAt, correctionAt}
 
--- "A table's image": the bytes for its order and set, with measures.
+-- The mark `LS`.
+abbrev pub saltedMark : List ℕ
+saltedMark = 76 ∷ 83 ∷ []
+
+-- "An image with salt other than zero opens with `LS` in place of `LH`, the salt's eight bytes after the root key; salt zero keeps `LH`" (02,
+-- N9). The root key is the header's last field.
+unfoldable pub salted : ℕ → List ℕ → List ℕ
+salted salt bytes =
+    cond (eqb salt 0) bytes
+    (saltedMark ++ drop (length headerMark) (take headerBytes bytes) ++ littleEndian saltBytes salt ++ drop headerBytes bytes)
+
+-- "A table's image": the bytes for its order, its salt and its set, with measures.
 unfoldable pub imageOf : Contents → List ℕ
-imageOf c = image (c .order) priorityOf (measureIn (c .entries)) (keysIn c)
+imageOf c = salted (c .salt) (image (c .order) (priorityIn c) (measureIn (c .entries)) (keysIn c))
 
 -- How many of the keys are measured.
 unfoldable pub measuredIn : Contents → ℕ
@@ -28,6 +38,17 @@ numberOf (b ∷ bs) = b + 256 * numberOf bs
 -- The field of so many bytes from an index on.
 unfoldable pub fieldAt : ℕ → ℕ → List ℕ → ℕ
 fieldAt at width bytes = numberOf (take width (drop at bytes))
+
+-- Whether the header at the start of the bytes has a salt: its mark is `LS`.
+unfoldable pub isSalted : List ℕ → Bool
+isSalted bytes = same (take 2 bytes) saltedMark
+
+-- How many bytes that header has, and the salt that it shows.
+unfoldable pub headerSpan : List ℕ → ℕ
+headerSpan bytes = cond (isSalted bytes) (headerBytes + saltBytes) headerBytes
+
+unfoldable pub saltShown : List ℕ → ℕ
+saltShown bytes = cond (isSalted bytes) (fieldAt saltAt saltBytes bytes) 0
 
 -- Whether the node record at the start of the bytes is a measured key's: its mark is `LM`.
 unfoldable pub isMeasured : List ℕ → Bool
@@ -63,17 +84,18 @@ blockEntries (suc many) bytes =
     let nodes = drop blockBytes bytes in
     nodeEntries held nodes ++ blockEntries many (drop (nodesSpan held nodes) nodes)
 
--- The order and the set that bytes show: the header's order, and the entries of the node records, sorted by key.
+-- The order, the salt and the set that bytes show: the header's order, its salt, and the entries of the node records, sorted by key.
 unfoldable pub readImage : List ℕ → Contents
 readImage bytes =
     record {
       order = fieldAt orderAt orderBytes bytes;
-      entries = sortBy keyBelow (blockEntries (fieldAt blocksAt countBytes bytes) (drop headerBytes bytes));
+      salt = saltShown bytes;
+      entries = sortBy keyBelow (blockEntries (fieldAt blocksAt countBytes bytes) (drop (headerSpan bytes) bytes));
     }
 
 -- "6. The image is not one that the writer makes for any order and any set of at most 4,096 keys"; "image reading gives 6 for" a measure
--- outside the rules (02, N4): the bytes are exactly the image of what they show, which is an order that a table may have and a set of at
--- most so many keys with measures.
+-- outside the rules (02, N4), and "`LS` with zero gives 6" (02, N9): the bytes are exactly the image of what they show, which is an order that
+-- a table may have, a salt, and a set of at most so many keys with measures.
 unfoldable pub isImage : List ℕ → Bool
 isImage bytes =
     tableOrder (readImage bytes .order)

@@ -8,7 +8,10 @@ pub const BLOCK_BYTES: usize = 14;
 
 pub const NODE_BYTES: usize = 30;
 
-// What the record of a measured key has more than that.
+// What the header has more where the salt is not zero.
+pub const SALT_BYTES: usize = 8;
+
+// What the record of a measured key has more than a node's.
 pub const MEASURE_BYTES: usize = 6;
 
 // The bytes of a field: the order; a count, a level or a rank; a key; a length; a stored correction.
@@ -27,6 +30,8 @@ pub const MARK: u8 = b'L';
 
 pub const HEADER_MARK: u8 = b'H';
 
+pub const SALTED_MARK: u8 = b'S';
+
 pub const BLOCK_MARK: u8 = b'B';
 
 pub const NODE_MARK: u8 = b'N';
@@ -41,6 +46,8 @@ pub const SIZE_AT: usize = 3;
 pub const BLOCKS_AT: usize = 5;
 
 pub const ROOT_AT: usize = 7;
+
+pub const SALT_AT: usize = 15;
 
 // Where a block record's fields begin.
 pub const LEADER_AT: usize = 2;
@@ -64,8 +71,8 @@ pub const LENGTH_AT: usize = 30;
 
 pub const CORRECTION_AT: usize = 34;
 
-// No image has more bytes: those of 4,096 measured keys and as many blocks.
-pub const MOST_BYTES: usize = 204815;
+// No image has more bytes: those of a salt, 4,096 measured keys and as many blocks.
+pub const MOST_BYTES: usize = 204823;
 
 // The most bytes with which an image cannot have more than 512 keys: a header and so many node records.
 pub const MEDIUM_BYTES: usize = 15375;

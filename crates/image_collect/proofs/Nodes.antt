@@ -1,4 +1,4 @@
--- The node records at the start of bytes: their marks, how long they are, and what they show. Assumes nothing.
+-- The header and the node records at the start of bytes: their marks, how long they are, and what they show. Assumes nothing.
 use mathlib.Core.Bool.{Bool, true, false, _&&_}
 use mathlib.Core.List.{List, [], _∷_}
 use mathlib.Core.Logic.{_≢_}
@@ -16,8 +16,8 @@ use Rattle.measure.proofs.Stored.{stored-measures, unmeasured-right}
 use Rattle.measure.proofs.Tags.{tag-from-stored, unmeasured-tag}
 use Rattle.treap.specs.Image.{lengthBytes, correctionBytes, nodeMark}
 use Rattle.table.specs.Contents.{rightMeasure}
-use Rattle.image.specs.Layout.{nodeBytes, measureBytes, lengthAt, correctionAt}
-use Rattle.image.specs.Image.{fieldAt, isMeasured, nodeSpan, entryShown, nodeEntries, nodesSpan}
+use Rattle.image.specs.Layout.{headerBytes, saltBytes, nodeBytes, measureBytes, lengthAt, correctionAt}
+use Rattle.image.specs.Image.{isSalted, headerSpan, fieldAt, isMeasured, nodeSpan, entryShown, nodeEntries, nodesSpan}
 use Rattle.image_collect.specs.Reading.{isNode, areNodes}
 
 -- ---- a mark, by its two bytes
@@ -26,21 +26,30 @@ mark-bytes second [] h = absurd (omega arith)
 mark-bytes second (a ∷ []) h = absurd (omega arith)
 mark-bytes second (a ∷ b ∷ bytes) h = by-test (eqb b second) (λ e. rw e) (λ e. rw e)
 
-module _ (second : ℕ) (bytes : List ℕ) (long : nodeBytes ≤ length bytes) where
+pub mark-short : (second : ℕ) (bytes : List ℕ) → length bytes < 2 → false ≡ same (take 2 bytes) (76 ∷ second ∷ [])
+mark-short second [] h = refl
+mark-short second (a ∷ []) h = by-test (eqb a 76) (λ e. rw e) (λ e. rw e)
+mark-short second (a ∷ b ∷ bytes) h = absurd (omega arith)
+
+module _ (second : ℕ) (bytes : List ℕ) (long : 2 ≤ length bytes) where
   pub mark-first : getD bytes 0 0 ≢ 76 → false ≡ same (take 2 bytes) (76 ∷ second ∷ [])
-  mark-first d = sym (mark-bytes second bytes (omega arith) ∙ ap (λ (b : Bool). b && eqb (getD bytes 1 0) second) (ne-eqb (getD bytes 0 0) 76 d))
+  mark-first d = sym (mark-bytes second bytes long ∙ ap (λ (b : Bool). b && eqb (getD bytes 1 0) second) (ne-eqb (getD bytes 0 0) 76 d))
 
   pub mark-second : getD bytes 0 0 ≡ 76 → eqb (getD bytes 1 0) second ≡ same (take 2 bytes) (76 ∷ second ∷ [])
-  mark-second e = sym (mark-bytes second bytes (omega arith) ∙ ap (λ (b : Bool). b && eqb (getD bytes 1 0) second) (eq-eqb (getD bytes 0 0) 76 e))
+  mark-second e = sym (mark-bytes second bytes long ∙ ap (λ (b : Bool). b && eqb (getD bytes 1 0) second) (eq-eqb (getD bytes 0 0) 76 e))
 
-module _ (bytes : List ℕ) (long : nodeBytes ≤ length bytes) where
-  pub measured-first : getD bytes 0 0 ≢ 76 → false ≡ isMeasured bytes
-  unfolding isMeasured
-  measured-first = mark-first 77 bytes long
+-- ---- the header
+module _ (bytes : List ℕ) where
+  pub span-salted : isSalted bytes ≡ true → headerSpan bytes ≡ headerBytes + saltBytes
+  unfolding headerSpan
+  span-salted e = rw e
 
-  pub measured-second : getD bytes 0 0 ≡ 76 → eqb (getD bytes 1 0) 77 ≡ isMeasured bytes
-  unfolding isMeasured
-  measured-second = mark-second 77 bytes long
+  pub span-unsalted : isSalted bytes ≡ false → headerSpan bytes ≡ headerBytes
+  unfolding headerSpan
+  span-unsalted e = rw e
+
+  pub header-within : headerBytes ≤ headerSpan bytes
+  header-within = by-test (isSalted bytes) (λ e. omega (arith, span-salted e)) (λ e. omega (arith, span-unsalted e))
 
 -- ---- one record
 module _ (bytes : List ℕ) where

@@ -14,22 +14,21 @@ use Rattle.lists.proofs.Sorted.{sorted-length}
 use Rattle.measure.specs.Measure.{Measure, isMeasure, storedCorrection}
 use Rattle.measure.proofs.Stored.{measure-stored, stored-bounds}
 use Rattle.measure.specs.Tag.{isStored}
-use Rattle.priority.specs.Priority.{priorityOf}
 use Rattle.treap.specs.Treap.{leftLink, rightLink}
 use Rattle.treap.specs.Levels.{rank, count}
 use Rattle.treap.specs.Blocks.{Block, blocks}
 use Rattle.treap.specs.Image.{nodeMark, nodeRecord, nodeOf, blockPart, countBytes}
 use Rattle.table.specs.Layout.{mostSlots}
-use Rattle.table.specs.Contents.{Contents, Valid, entryKeys, keysIn, measureIn, keyBelow, rightMeasure}
+use Rattle.table.specs.Contents.{Contents, Valid, entryKeys, keysIn, priorityIn, measureIn, keyBelow, rightMeasure}
 use Rattle.table.proofs.Entries.{sorted-keys}
-use Rattle.image.specs.Layout.{headerBytes, blockBytes, nodeBytes, measureBytes, heldAt, IsByte}
-use Rattle.image.specs.Image.{imageOf, fieldAt, nodeEntries, nodesSpan, blockEntries, readImage, isImage}
+use Rattle.image.specs.Layout.{blockBytes, nodeBytes, measureBytes, heldAt, IsByte}
+use Rattle.image.specs.Image.{imageOf, headerSpan, fieldAt, nodeEntries, nodesSpan, blockEntries, readImage, isImage}
 use Rattle.image.proofs.Judging.{is-image-says}
 use Rattle.image.proofs.Lengths.{blockPart-length, image-length}
 use Rattle.image.proofs.Records as written
-use Rattle.image.proofs.Reading.{Readable, nodeOf-left, nodes-first, part-held, part-nodes, part-left, blocks-readable, number-read, parts-read, measured-right, read-of-image}
+use Rattle.image.proofs.Reading.{Readable, nodeOf-left, nodes-first, part-held, part-nodes, part-left, blocks-readable, number-read, span-read, parts-read, measured-right, read-of-image}
 use Rattle.image_collect.specs.Reading.{isNode, areNodes, intact, blocksOf, entriesOf, readable, RoomFor}
-use Rattle.image_collect.proofs.Nodes.{node-plain, node-measured, entries-number, nodes-inside, nodes-least, nodes-right}
+use Rattle.image_collect.proofs.Nodes.{header-within, node-plain, node-measured, entries-number, nodes-inside, nodes-least, nodes-right}
 
 -- ---- the record of a key, whatever follows it
 module _ (key left right rank count long stored : ℕ) (rest : List ℕ) where
@@ -93,14 +92,14 @@ module _ (α : ℕ) (p : ℕ → ℕ) (m : ℕ → Measure) (ks : List ℕ) (rig
 
 -- ---- an image
 module _ (c : Contents) (valid : Valid mostSlots c) where
-  blocks-number : blocksOf (imageOf c) ≡ length (blocks (c .order) priorityOf (keysIn c))
+  blocks-number : blocksOf (imageOf c) ≡ length (blocks (c .order) (priorityIn c) (keysIn c))
   unfolding blocksOf
   blocks-number = number-read c valid
 
-  image-intact : intact (blocksOf (imageOf c)) (drop headerBytes (imageOf c)) ≡ true
+  image-intact : intact (blocksOf (imageOf c)) (drop (headerSpan (imageOf c)) (imageOf c)) ≡ true
   image-intact =
       ap₂ intact blocks-number (parts-read c valid)
-      ∙ blocks-intact (c .order) priorityOf (measureIn (c .entries)) (keysIn c) (measured-right c valid) (blocks (c .order) priorityOf (keysIn c)) (blocks-readable c valid)
+      ∙ blocks-intact (c .order) (priorityIn c) (measureIn (c .entries)) (keysIn c) (measured-right c valid) (blocks (c .order) (priorityIn c) (keysIn c)) (blocks-readable c valid)
 
   entries-total : length (entriesOf (imageOf c)) ≡ length (keysIn c)
   unfolding entriesOf blocksOf readImage
@@ -114,9 +113,9 @@ module _ (c : Contents) (valid : Valid mostSlots c) where
   image-readable room enough =
       let long = image-length c valid in
       let fit = valid .keys-fit in
-      let few : length (keysIn c) ≤ room = enough (length (keysIn c)) fit (omega (arith, long)) in
-      and-both (leb headerBytes (length (imageOf c))) _ (le-leb headerBytes (length (imageOf c)) (omega (arith, long)))
-      (and-both (intact (blocksOf (imageOf c)) (drop headerBytes (imageOf c))) (leb (length (entriesOf (imageOf c))) room) image-intact
+      let few : length (keysIn c) ≤ room = enough (length (keysIn c)) fit (omega (arith, long, written.head-at-least (c .salt))) in
+      and-both (leb (headerSpan (imageOf c)) (length (imageOf c))) _ (le-leb (headerSpan (imageOf c)) (length (imageOf c)) (omega (arith, long, span-read c valid)))
+      (and-both (intact (blocksOf (imageOf c)) (drop (headerSpan (imageOf c)) (imageOf c))) (leb (length (entriesOf (imageOf c))) room) image-intact
       (le-leb (length (entriesOf (imageOf c))) room (omega (arith, few, entries-total))))
 
 -- what cannot be read, though there is room for the keys of an image, is no image
@@ -176,27 +175,27 @@ entries-right (suc many) bytes h =
 
 module _ (room : ℕ) (bytes : List ℕ) (e : readable room bytes ≡ true) where
   -- what can be read has a header, and keys for which there is room
-  pub readable-header : headerBytes ≤ length bytes
+  pub readable-header : headerSpan bytes ≤ length bytes
   unfolding readable
-  readable-header = leb-true headerBytes (length bytes) (and-left (leb headerBytes (length bytes)) _ e)
+  readable-header = leb-true (headerSpan bytes) (length bytes) (and-left (leb (headerSpan bytes) (length bytes)) _ e)
 
-  all-intact : intact (blocksOf bytes) (drop headerBytes bytes) ≡ true
+  all-intact : intact (blocksOf bytes) (drop (headerSpan bytes) bytes) ≡ true
   unfolding readable
-  all-intact = and-left (intact (blocksOf bytes) (drop headerBytes bytes)) _ (and-right (leb headerBytes (length bytes)) _ e)
+  all-intact = and-left (intact (blocksOf bytes) (drop (headerSpan bytes) bytes)) _ (and-right (leb (headerSpan bytes) (length bytes)) _ e)
 
   pub readable-few : length (entriesOf bytes) ≤ room
   unfolding readable
   readable-few =
       leb-true (length (entriesOf bytes)) room
-      (and-right (intact (blocksOf bytes) (drop headerBytes bytes)) _ (and-right (leb headerBytes (length bytes)) _ e))
+      (and-right (intact (blocksOf bytes) (drop (headerSpan bytes) bytes)) _ (and-right (leb (headerSpan bytes) (length bytes)) _ e))
 
   -- so there is room for them wherever there is room for the keys of an image
   pub readable-fits : (other : ℕ) → room ≤ mostSlots → RoomFor (length bytes) other → length (entriesOf bytes) ≤ other
   unfolding entriesOf
   readable-fits other few enough =
-      let inside = entries-inside (blocksOf bytes) (drop headerBytes bytes) all-intact in
-      enough (length (entriesOf bytes)) (omega (arith, readable-few, few)) (omega (arith, inside, readable-header, length-drop headerBytes bytes))
+      let inside = entries-inside (blocksOf bytes) (drop (headerSpan bytes) bytes) all-intact in
+      enough (length (entriesOf bytes)) (omega (arith, readable-few, few)) (omega (arith, inside, readable-header, header-within bytes, length-drop (headerSpan bytes) bytes))
 
   pub readable-right : All (λ e. rightMeasure e ≡ true) (entriesOf bytes)
   unfolding entriesOf
-  readable-right = entries-right (blocksOf bytes) (drop headerBytes bytes) all-intact
+  readable-right = entries-right (blocksOf bytes) (drop (headerSpan bytes) bytes) all-intact

@@ -17,8 +17,8 @@ use Rattle.measure.specs.Tag.{tagOf}
 use Rattle.treap.specs.Image.{countBytes}
 use Rattle.table.specs.Contents.{Entry, entryKeys}
 use Rattle.table.specs.Tags.{entryTags}
-use Rattle.image.specs.Layout.{headerBytes, blockBytes, heldAt}
-use Rattle.image.specs.Image.{fieldAt, nodeEntries, nodesSpan, blockEntries}
+use Rattle.image.specs.Layout.{blockBytes, heldAt}
+use Rattle.image.specs.Image.{headerSpan, fieldAt, nodeEntries, nodesSpan, blockEntries}
 use Rattle.image_collect.specs.declared.Collected.the-variants.{Keys, Broken}
 use Rattle.image_collect.specs.Reading.{areNodes, intact, blocksOf, entriesOf, readable, collected}
 use Rattle.image_collect.proofs.Nodes.{entries-number, nodes-inside}
@@ -45,7 +45,7 @@ module _ (bytes keys-before tags-before : List ℕ) where
     pub count : n ≡ length done
     pub fits : n ≤ length keys-before
     pub entries-rest : entriesOf bytes ≡ done ++ blockEntries (blocksOf bytes - j) (drop at bytes)
-    pub intact-rest : intact (blocksOf bytes) (drop headerBytes bytes) ≡ intact (blocksOf bytes - j) (drop at bytes)
+    pub intact-rest : intact (blocksOf bytes) (drop (headerSpan bytes) bytes) ≡ intact (blocksOf bytes - j) (drop at bytes)
     pub keys-hold : keys ≡ overwrite keys-before 0 (entryKeys done)
     pub tags-hold : tags ≡ overwrite tags-before 0 (entryTags done)
 
@@ -53,27 +53,27 @@ module _ (bytes keys-before tags-before : List ℕ) where
   unfolding collected
   broken e = rw e
 
-  pub no-header : length bytes < headerBytes → readable (length keys-before) bytes ≡ false
+  pub no-header : length bytes < headerSpan bytes → readable (length keys-before) bytes ≡ false
   unfolding readable
-  no-header h = rw (lt-leb headerBytes (length bytes) h)
+  no-header h = rw (lt-leb (headerSpan bytes) (length bytes) h)
 
-  not-intact : headerBytes ≤ length bytes → intact (blocksOf bytes) (drop headerBytes bytes) ≡ false → readable (length keys-before) bytes ≡ false
+  not-intact : headerSpan bytes ≤ length bytes → intact (blocksOf bytes) (drop (headerSpan bytes) bytes) ≡ false → readable (length keys-before) bytes ≡ false
   unfolding readable
-  not-intact h e = rw (le-leb headerBytes (length bytes) h, e)
+  not-intact h e = rw (le-leb (headerSpan bytes) (length bytes) h, e)
 
-  module _ (header : headerBytes ≤ length bytes) (as-long : length tags-before ≡ length keys-before) where
-    pub walked-none : Walked keys-before tags-before headerBytes 0 0
+  module _ (header : headerSpan bytes ≤ length bytes) (as-long : length tags-before ≡ length keys-before) where
+    pub walked-none : (at : ℕ) → at ≡ headerSpan bytes → Walked keys-before tags-before at 0 0
     unfolding entriesOf
-    walked-none =
+    walked-none at e =
         let all : blocksOf bytes - 0 ≡ blocksOf bytes = omega arith in
         record {
           done = [];
           upto = omega arith;
-          within = header;
+          within = omega (arith, header);
           count = refl;
           fits = omega arith;
-          entries-rest = ap (λ (m : ℕ). blockEntries m (drop headerBytes bytes)) (sym all);
-          intact-rest = ap (λ (m : ℕ). intact m (drop headerBytes bytes)) (sym all);
+          entries-rest = ap₂ (λ (m from : ℕ). blockEntries m (drop from bytes)) (sym all) (sym e);
+          intact-rest = ap₂ (λ (m from : ℕ). intact m (drop from bytes)) (sym all) (sym e);
           keys-hold = sym (overwrite-none keys-before 0);
           tags-hold = sym (overwrite-none tags-before 0);
         }
@@ -116,7 +116,7 @@ module _ (bytes keys-before tags-before : List ℕ) where
             ∙ ap₂ (λ (m : ℕ) (l : List ℕ). nodeEntries m l ++ blockEntries left (drop (nodesSpan m l) l)) here to-nodes
             ∙ ap (λ (l : List ℕ). nodeEntries held nodes ++ blockEntries left l) to-later
 
-        rest-intact : intact (blocksOf bytes) (drop headerBytes bytes) ≡ (leb blockBytes (length (drop at bytes)) && (areNodes held nodes && intact left later))
+        rest-intact : intact (blocksOf bytes) (drop (headerSpan bytes) bytes) ≡ (leb blockBytes (length (drop at bytes)) && (areNodes held nodes && intact left later))
         rest-intact =
             s .intact-rest
             ∙ ap (λ (m : ℕ). intact m (drop at bytes)) rest-blocks
@@ -143,8 +143,8 @@ module _ (bytes keys-before tags-before : List ℕ) where
             ∙ length-append (s .done) (these ++ others)
             ∙ ap (λ (m : ℕ). length (s .done) + m) (length-append these others)
             in
-            and-false-right (leb headerBytes (length bytes)) _
-            (and-false-right (intact (blocksOf bytes) (drop headerBytes bytes)) (leb (length (entriesOf bytes)) (length keys-before))
+            and-false-right (leb (headerSpan bytes) (length bytes)) _
+            (and-false-right (intact (blocksOf bytes) (drop (headerSpan bytes) bytes)) (leb (length (entriesOf bytes)) (length keys-before))
             (lt-leb (length (entriesOf bytes)) (length keys-before) (omega (arith, many, s .count, s .fits, entries-number held nodes))))
 
         pub walked-more : blockBytes ≤ length bytes - at → held ≤ length keys-before - n → areNodes held nodes ≡ true
@@ -186,8 +186,8 @@ module _ (bytes keys-before tags-before : List ℕ) where
         can-be-read : readable (length keys-before) bytes ≡ true
         unfolding readable
         can-be-read =
-            and-both (leb headerBytes (length bytes)) _ (le-leb headerBytes (length bytes) header)
-            (and-both (intact (blocksOf bytes) (drop headerBytes bytes)) (leb (length (entriesOf bytes)) (length keys-before))
+            and-both (leb (headerSpan bytes) (length bytes)) _ (le-leb (headerSpan bytes) (length bytes) header)
+            (and-both (intact (blocksOf bytes) (drop (headerSpan bytes) bytes)) (leb (length (entriesOf bytes)) (length keys-before))
             (s .intact-rest ∙ ap (λ (m : ℕ). intact m (drop at bytes)) none-left)
             (le-leb (length (entriesOf bytes)) (length keys-before) (omega (arith, ap length all-done, s .count, s .fits))))
 

@@ -10,7 +10,7 @@ use Rattle.treap.specs.Image.{countBytes, lengthBytes, correctionBytes, nodeMar
 use Rattle.table.specs.Layout.{mostSlots}
 use Rattle.table.specs.Contents.{Entry}
 use Rattle.image.specs.Layout.{headerBytes, blockBytes, nodeBytes, blocksAt, heldAt, lengthAt, correctionAt}
-use Rattle.image.specs.Image.{fieldAt, isMeasured, nodeSpan, nodesSpan, blockEntries}
+use Rattle.image.specs.Image.{headerSpan, fieldAt, isMeasured, nodeSpan, nodesSpan, blockEntries}
 use Rattle.image_collect.specs.declared.Checked.{Checked}
 use Rattle.image_collect.specs.declared.Checked.the-variants as checking
 use Rattle.image_collect.specs.declared.Collected.{Collected}
@@ -46,12 +46,12 @@ blocksOf bytes = fieldAt blocksAt countBytes bytes
 
 -- The entries of all node records, in the order of the image.
 unfoldable pub entriesOf : List ℕ → List Entry
-entriesOf bytes = blockEntries (blocksOf bytes) (drop headerBytes bytes)
+entriesOf bytes = blockEntries (blocksOf bytes) (drop (headerSpan bytes) bytes)
 
 -- The records can be read, and there is room for their keys.
 unfoldable pub readable : ℕ → List ℕ → Bool
 readable room bytes =
-    leb headerBytes (length bytes) && (intact (blocksOf bytes) (drop headerBytes bytes) && leb (length (entriesOf bytes)) room)
+    leb (headerSpan bytes) (length bytes) && (intact (blocksOf bytes) (drop (headerSpan bytes) bytes) && leb (length (entriesOf bytes)) room)
 
 -- What collecting the keys and their tags finds.
 unfoldable pub collected : ℕ → List ℕ → Collected

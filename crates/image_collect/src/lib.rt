@@ -1,14 +1,15 @@
-// Reading an image: the keys and the measures of its records.
+// Reading an image: its salt, the keys and the measures of its records.
 ghost use mathlib.Core.Bool.{true};
+ghost use mathlib.Core.List.{_∷_, []};
 ghost use mathlib.Core.Path.{_≡_};
 ghost use Prim.Native.Nat.{_+_, _≤_};
-ghost use lib.ListN.{length};
-ghost use Rattle.lists.specs.Lists.{overwrite};
+ghost use lib.ListN.{length, take};
+ghost use Rattle.lists.specs.Lists.{overwrite, same};
 ghost use Rattle.measure.specs.Tag.{tagOf};
 ghost use Rattle.table.specs.Contents.{entryKeys};
 ghost use Rattle.table.specs.Tags.{entryTags};
 ghost use Rattle.image.specs.Layout.{nodeBytes};
-ghost use Rattle.image.specs.Image.{isMeasured, nodeSpan, entryShown, nodeEntries};
+ghost use Rattle.image.specs.Image.{isSalted, headerSpan, saltShown, isMeasured, nodeSpan, entryShown, nodeEntries};
 ghost use Rattle.image_collect.specs.Reading.{isNode, areNodes, checked, readable, entriesOf, collected};
 use image::BLOCK_BYTES;
 use image::BLOCKS_AT;
@@ -26,6 +27,9 @@ use image::MEASURE_BYTES;
 use image::MEASURED_MARK;
 use image::NODE_BYTES;
 use image::NODE_MARK;
+use image::SALT_AT;
+use image::SALT_BYTES;
+use image::SALTED_MARK;
 use measure::UNMEASURED;
 
 // What checking a block's node records finds: where they end.
@@ -40,15 +44,52 @@ pub enum Collected {
     Broken,
 }
 
-// Whether the node record at the start of the bytes is a measured key's.
-fn is_measured(node: &[u8]) -> bool
-    requires { ⌜ nodeBytes ≤ length (now node) ⌝ }
-    ensures { λ r. ⌜ r ≡ isMeasured (now (node .entry)) ⌝ }
+// Whether the bytes begin with a mark of this kind.
+fn is_marked(bytes: &[u8], kind: u8) -> bool
+    ensures { λ r. ⌜ r ≡ same (take 2 (now (bytes .entry))) (76 ∷ kind ∷ []) ⌝ }
 {
-    if node[0] != MARK {
+    if bytes.len() < 2 {
         return false;
     }
-    node[1] == MEASURED_MARK
+    if bytes[0] != MARK {
+        return false;
+    }
+    bytes[1] == kind
+}
+
+// Whether the header at the start of the bytes has a salt.
+fn is_salted(image: &[u8]) -> bool
+    ensures { λ r. ⌜ r ≡ isSalted (now (image .entry)) ⌝ }
+{
+    is_marked(image, SALTED_MARK)
+}
+
+// How many bytes that header has. Internal to this library's crates, though it takes any bytes.
+pub fn header_span(image: &[u8]) -> usize
+    ensures { λ r. ⌜ r ≡ headerSpan (now (image .entry)) ⌝ }
+{
+    if is_salted(image) {
+        return HEADER_BYTES + SALT_BYTES;
+    }
+    HEADER_BYTES
+}
+
+// The salt that it shows. Internal to this library's crates: their images have a whole header.
+pub fn salt_shown(image: &[u8]) -> u64
+    requires { ⌜ headerSpan (now image) ≤ length (now image) ⌝ }
+    ensures { λ r. ⌜ r ≡ saltShown (now (image .entry)) ⌝ }
+{
+    if is_salted(image) {
+        return image_fields::get(image, SALT_AT, SALT_BYTES);
+    }
+    0
+}
+
+// Whether the node record at the start of the bytes is a measured key's.
+fn is_measured(node: &[u8]) -> bool
+    ensures { λ r. ⌜ r ≡ isMeasured (now (node .entry)) ⌝ }
+{
+    is_marked(node, MEASURED_MARK)
 }
 
 // How many bytes that record has. Internal to this library's crates.
@@ -71,7 +112,7 @@ fn is_node(node: &[u8]) -> bool
         return false;
     }
     if !is_measured(node) {
-        return node[0] == MARK && node[1] == NODE_MARK;
+        return is_marked(node, NODE_MARK);
     }
     if size < NODE_BYTES + MEASURE_BYTES {
         return false;
@@ -130,11 +171,12 @@ pub fn collect(image: &[u8], keys: &mut [u64], tags: &mut [u64]) -> Collected
     ensures { λ _. ⌜ (readable (length (now (keys .entry))) (now (image .entry)) ≡ true → now (tags .exit) ≡ overwrite (now (tags .entry)) 0 (entryTags (entriesOf (now (image .entry))))) ⌝ }
 {
     let size = image.len();
-    if size < HEADER_BYTES {
+    let head = header_span(image);
+    if size < head {
         return Collected::Broken;
     }
     let blocks = image_fields::get(image, BLOCKS_AT, COUNT_BYTES);
-    let mut at = HEADER_BYTES;
+    let mut at = head;
     let mut n = 0;
     for _ in 0..blocks {
         if size - at < BLOCK_BYTES {

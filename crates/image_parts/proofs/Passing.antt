@@ -8,24 +8,23 @@ use lib.Seq.{slice}
 use Rattle.lists.specs.Lists.{overwrite}
 use Rattle.lists.proofs.Overwrite.{overwrite-none, overwrite-length}
 use Rattle.lists.proofs.Parts.{overwrite-next}
-use Rattle.image.specs.Layout.{headerBytes}
 use Rattle.table_encode.specs.Encode.{Columns}
 use Rattle.image_blocks.specs.Runs.{RunEnds}
 use Rattle.image_parts.specs.Parts.{blockAt, blocksAt}
 
-module _ (keys tags : List ℕ) (root : ℕ) (c : Columns) (weights : List ℕ) where
-  -- The output once the parts of the blocks before index `low` are written, up to byte `at`.
+module _ (keys tags : List ℕ) (root : ℕ) (c : Columns) (weights : List ℕ) (from : ℕ) where
+  -- The output once the parts of the blocks before index `low` are written, from a byte on up to byte `at`.
   pub record BlocksPut (sorted before output : List ℕ) (low at : ℕ) : Type 0 where
     pub done : List ℕ
     pub upto : low ≤ length sorted
-    pub here : at ≡ headerBytes + length done
+    pub here : at ≡ from + length done
     pub whole : blocksAt keys tags root c weights sorted ≡ done ++ blocksAt keys tags root c weights (drop low sorted)
     pub size : length output ≡ length before
-    pub holds : output ≡ overwrite before headerBytes done
+    pub holds : output ≡ overwrite before from done
 
-  pub blocks-none : (sorted before : List ℕ) → BlocksPut sorted before before 0 headerBytes
+  pub blocks-none : (sorted before : List ℕ) → BlocksPut sorted before before 0 from
   blocks-none sorted before =
-      record { done = []; upto = omega arith; here = refl; whole = refl; size = refl; holds = sym (overwrite-none before headerBytes) }
+      record { done = []; upto = omega arith; here = omega arith; whole = refl; size = refl; holds = sym (overwrite-none before from) }
 
   -- the part of the first block, and the rest
   part-next : (sorted : List ℕ) (low high : ℕ) → RunEnds weights sorted low high
@@ -43,13 +42,13 @@ module _ (keys tags : List ℕ) (root : ℕ) (c : Columns) (weights : List ℕ) 
           put .whole ∙ ap (λ (xs : List ℕ). put .done ++ xs) (part-next sorted low high ends)
           ∙ sym (append-assoc (put .done) part (blocksAt keys tags root c weights (drop high sorted)))
 
-      pub blocks-room : headerBytes + length (blocksAt keys tags root c weights sorted) ≤ length before → at + length part ≤ length before
+      pub blocks-room : from + length (blocksAt keys tags root c weights sorted) ≤ length before → at + length part ≤ length before
       blocks-room room =
           let here = put .here in
           let rest = blocksAt keys tags root c weights (drop high sorted) in
           omega (arith, ap length whole-next, length-append (put .done ++ part) rest, length-append (put .done) part)
 
-      pub blocks-more : headerBytes + length (blocksAt keys tags root c weights sorted) ≤ length before
+      pub blocks-more : from + length (blocksAt keys tags root c weights sorted) ≤ length before
           → BlocksPut sorted before (overwrite output at part) high (at + length part)
       blocks-more room =
           let here = put .here in
@@ -63,12 +62,12 @@ module _ (keys tags : List ℕ) (root : ℕ) (c : Columns) (weights : List ℕ) 
             size = overwrite-length output at part (omega arith) ∙ same;
             holds =
                 ap (λ (xs : List ℕ). overwrite xs at part) (put .holds)
-                ∙ overwrite-next headerBytes at (put .done) before (omega arith) (omega arith) part (omega arith);
+                ∙ overwrite-next from at (put .done) before (omega arith) (omega arith) part (omega arith);
           }
 
-    pub blocks-all : length sorted ≤ low → output ≡ overwrite before headerBytes (blocksAt keys tags root c weights sorted)
+    pub blocks-all : length sorted ≤ low → output ≡ overwrite before from (blocksAt keys tags root c weights sorted)
     unfolding blocksAt flatMap
     blocks-all h =
         put .holds
-        ∙ ap (overwrite before headerBytes)
+        ∙ ap (overwrite before from)
         (sym (put .whole ∙ ap (λ (xs : List ℕ). put .done ++ blocksAt keys tags root c weights xs) (drop-of-length-le sorted h) ∙ append-nil (put .done)))

@@ -11,10 +11,11 @@ use Rattle.lists.proofs.Parts.{overwrite-next}
 use Rattle.measure.specs.Tag.{lengthIn}
 use Rattle.treap.specs.Image.{headerRecord}
 use Rattle.lists.proofs.FlatMap.{length-flatMap-headed}
-use Rattle.image.specs.Layout.{headerBytes, blockBytes, nodeBytes, measureBytes}
+use Rattle.image.specs.Layout.{headerBytes, saltBytes, headBytes, blockBytes, nodeBytes, measureBytes}
 use Rattle.table_encode.specs.Encode.{Columns, keyAt}
+use Rattle.image.specs.Image.{salted}
 use Rattle.image.proofs.PartLengths.{nodes-length}
-use Rattle.image.proofs.Records.{header-length}
+use Rattle.image.proofs.Records.{head-at-most, header-length}
 use Rattle.image_blocks.specs.Naming.{sameWeight}
 use Rattle.image_parts.specs.Parts.{nodeAt, measuredAt, blockAt, blocksAt, imageAt}
 use Rattle.image_parts.proofs.Nodes.{node-at-length, block-at-length}
@@ -49,7 +50,7 @@ module _ (alike : ℕ → ℕ → Bool) where
   runs-few [] = omega arith
   runs-few (x ∷ xs) = omega (arith, joined-few x (runs alike xs), runs-few xs)
 
-module _ (order : ℕ) (keys tags : List ℕ) (root : ℕ) (c : Columns) (weights sorted : List ℕ) where
+module _ (order salt : ℕ) (keys tags : List ℕ) (root : ℕ) (c : Columns) (weights sorted : List ℕ) where
   abbrev node : ℕ → List ℕ
   node = nodeAt keys tags (c .left) (c .right) (c .rank) (c .count)
 
@@ -65,15 +66,18 @@ module _ (order : ℕ) (keys tags : List ℕ) (root : ℕ) (c : Columns) (weight
         nodes-length node (λ i. lengthIn (getD tags i 0)) (node-at-length keys tags (c .left) (c .right) (c .rank) (c .count)) sorted,
       )
 
-  module _ (blocks measured : ℕ) (counted : blocks ≡ length (runs (sameWeight weights) sorted)) (found : measured ≡ length (keep (measuredAt tags) sorted)) (all : length sorted ≡ length keys) where
+  module _ (head blocks measured : ℕ) (headed-by : head ≡ headBytes salt) (counted : blocks ≡ length (runs (sameWeight weights) sorted)) (found : measured ≡ length (keep (measuredAt tags) sorted)) (all : length sorted ≡ length keys) where
     abbrev size : ℕ
-    size = headerBytes + blockBytes * blocks + nodeBytes * length keys + measureBytes * measured
+    size = head + blockBytes * blocks + nodeBytes * length keys + measureBytes * measured
 
-    pub image-at-length : size ≡ length (imageAt order keys tags root c weights sorted)
+    pub image-at-length : size ≡ length (imageAt order salt keys tags root c weights sorted)
     unfolding imageAt
     image-at-length =
-        let head = headerRecord order (length keys) (length (runs (sameWeight weights) sorted)) (keyAt keys root) in
-        omega (arith, blocks-length, length-append head (blocksAt keys tags root c weights sorted), header-length order (length keys) (length (runs (sameWeight weights) sorted)) (keyAt keys root))
+        let part = salted salt (headerRecord order (length keys) (length (runs (sameWeight weights) sorted)) (keyAt keys root)) in
+        omega (arith, blocks-length, length-append part (blocksAt keys tags root c weights sorted), header-length salt order (length keys) (length (runs (sameWeight weights) sorted)) (keyAt keys root))
+
+    pub head-few : head ≤ headerBytes + saltBytes
+    head-few = omega (arith, head-at-most salt)
 
     pub blocks-few : blocks ≤ length keys
     blocks-few = omega (arith, runs-few (sameWeight weights) sorted)
@@ -82,19 +86,19 @@ module _ (order : ℕ) (keys tags : List ℕ) (root : ℕ) (c : Columns) (weight
     measured-few = omega (arith, length-keep (measuredAt tags) sorted)
 
     -- the blocks have room behind the header
-    pub blocks-fit : (room : ℕ) → size ≤ room → headerBytes + length (blocksAt keys tags root c weights sorted) ≤ room
+    pub blocks-fit : (room : ℕ) → size ≤ room → head + length (blocksAt keys tags root c weights sorted) ≤ room
     blocks-fit room h = omega (arith, blocks-length)
 
     -- ---- the header, then the blocks
     pub image-written : (before headed output : List ℕ) (top : ℕ) → top ≡ keyAt keys root → size ≤ length before
-        → headed ≡ overwrite before 0 (headerRecord order (length keys) blocks top)
-        → output ≡ overwrite headed headerBytes (blocksAt keys tags root c weights sorted)
-        → output ≡ overwrite before 0 (imageAt order keys tags root c weights sorted)
+        → headed ≡ overwrite before 0 (salted salt (headerRecord order (length keys) blocks top))
+        → output ≡ overwrite headed head (blocksAt keys tags root c weights sorted)
+        → output ≡ overwrite before 0 (imageAt order salt keys tags root c weights sorted)
     unfolding imageAt
     image-written before headed output top e room h o =
-        let head = headerRecord order (length keys) blocks top in
+        let part = salted salt (headerRecord order (length keys) blocks top) in
         let rest = blocksAt keys tags root c weights sorted in
         o
-        ∙ ap (λ (xs : List ℕ). overwrite xs headerBytes rest) h
-        ∙ overwrite-next 0 headerBytes head before (omega (arith, header-length order (length keys) blocks top)) (omega arith) rest (omega (arith, blocks-length))
-        ∙ ap₂ (λ (b r : ℕ). overwrite before 0 (headerRecord order (length keys) b r ++ rest)) counted e
+        ∙ ap (λ (xs : List ℕ). overwrite xs head rest) h
+        ∙ overwrite-next 0 head part before (omega (arith, header-length salt order (length keys) blocks top)) (omega arith) rest (omega (arith, blocks-length))
+        ∙ ap₂ (λ (b r : ℕ). overwrite before 0 (salted salt (headerRecord order (length keys) b r) ++ rest)) counted e

@@ -7,6 +7,7 @@ use lib.ListN.{length, getD}
 use Rattle.lists.specs.Lists.{nonzero, runs}
 use Rattle.measure.specs.Tag.{lengthIn, storedIn}
 use Rattle.treap.specs.Image.{headerRecord, blockRecord, nodeRecord}
+use Rattle.image.specs.Image.{salted}
 use Rattle.table_encode.specs.Encode.{Columns, keyAt}
 use Rattle.image_blocks.specs.Naming.{levelAt, leaderAt, sameWeight}
 
@@ -31,9 +32,10 @@ unfoldable pub blocksAt : List ℕ → List ℕ → ℕ → Columns → List ℕ
 blocksAt keys tags root c weights sorted = flatMap (blockAt keys tags root c) (runs (sameWeight weights) sorted)
 
 -- The whole image.
-unfoldable pub imageAt : ℕ → List ℕ → List ℕ → ℕ → Columns → List ℕ → List ℕ → List ℕ
-imageAt order keys tags root c weights sorted =
-    headerRecord order (length keys) (length (runs (sameWeight weights) sorted)) (keyAt keys root) ++ blocksAt keys tags root c weights sorted
+unfoldable pub imageAt : ℕ → ℕ → List ℕ → List ℕ → ℕ → Columns → List ℕ → List ℕ → List ℕ
+imageAt order salt keys tags root c weights sorted =
+    salted salt (headerRecord order (length keys) (length (runs (sameWeight weights) sorted)) (keyAt keys root))
+    ++ blocksAt keys tags root c weights sorted
 
 -- As many tags as keys, and columns with an entry for each key, whose links are positions of keys or zero.
 pub record Listed (keys tags left right rank count : List ℕ) : Type 0 where

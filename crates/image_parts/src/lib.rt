@@ -5,12 +5,10 @@ ghost use Prim.Native.Nat.{_+_, _<_, _≤_};
 ghost use lib.ListN.{length};
 ghost use lib.Seq.{slice};
 ghost use Rattle.lists.specs.Lists.{All, keep, overwrite};
-ghost use Rattle.image.specs.Layout.{headerBytes};
 ghost use Rattle.image_blocks.specs.Naming.{Ranked};
 ghost use Rattle.image_parts.specs.Parts.{nodeAt, measuredAt, blockAt, blocksAt, Listed, imageAt};
 ghost use Rattle.image_parts.specs.Written.{writtenTo};
 use image::BLOCK_BYTES;
-use image::HEADER_BYTES;
 use image::MEASURE_BYTES;
 use image::NODE_BYTES;
 
@@ -142,7 +140,7 @@ fn put_part(
     )
 }
 
-// Write the parts of all blocks, behind the header.
+// Write the parts of all blocks, from byte `from` on.
 fn put_blocks(
     keys: &[u64],
     tags: &[u64],
@@ -155,15 +153,16 @@ fn put_blocks(
     weights: &[u64],
     sorted: &[u16],
     output: &mut [u8],
+    from: usize,
 )
     requires { ⌜ Listed (now keys) (now tags) (now left) (now right) (now rank) (now count) ⌝ }
     requires { ⌜ Ranked (length (now keys)) root (now rank) (now leader) ⌝ }
     requires { ⌜ (length (now weights) ≡ length (now keys)) × All (λ i. i < length (now keys)) (now sorted) ⌝ }
-    requires { ⌜ headerBytes + length (blocksAt (now keys) (now tags) root (record { left = now left; right = now right; leader = now leader; rank = now rank; count = now count }) (now weights) (now sorted)) ≤ length (now output) ⌝ }
-    ensures { λ _. ⌜ now (output .exit) ≡ overwrite (now (output .entry)) headerBytes (blocksAt (now (keys .entry)) (now (tags .entry)) root (record { left = now (left .entry); right = now (right .entry); leader = now (leader .entry); rank = now (rank .entry); count = now (count .entry) }) (now (weights .entry)) (now (sorted .entry))) ⌝ }
+    requires { ⌜ from + length (blocksAt (now keys) (now tags) root (record { left = now left; right = now right; leader = now leader; rank = now rank; count = now count }) (now weights) (now sorted)) ≤ length (now output) ⌝ }
+    ensures { λ _. ⌜ now (output .exit) ≡ overwrite (now (output .entry)) from (blocksAt (now (keys .entry)) (now (tags .entry)) root (record { left = now (left .entry); right = now (right .entry); leader = now (leader .entry); rank = now (rank .entry); count = now (count .entry) }) (now (weights .entry)) (now (sorted .entry))) ⌝ }
 {
     let mut low = 0;
-    let mut at = HEADER_BYTES;
+    let mut at = from;
     while low < sorted.len() {
         let high = image_blocks::runs::run_end(weights, sorted, low);
         at = put_part(
@@ -200,24 +199,31 @@ pub fn emit(
     weights: &[u64],
     sorted: &[u16],
     output: &mut [u8],
+    salt: u64,
 ) -> usize
     requires { ⌜ Listed (now keys) (now tags) (now left) (now right) (now rank) (now count) ⌝ }
     requires { ⌜ Ranked (length (now keys)) root (now rank) (now leader) ⌝ }
     requires { ⌜ (length (now weights) ≡ length (now keys)) × (length (now sorted) ≡ length (now keys)) × All (λ i. i < length (now keys)) (now sorted) ⌝ }
-    ensures { λ r. ⌜ r ≡ length (imageAt order (now (keys .entry)) (now (tags .entry)) root (record { left = now (left .entry); right = now (right .entry); leader = now (leader .entry); rank = now (rank .entry); count = now (count .entry) }) (now (weights .entry)) (now (sorted .entry))) ⌝ }
-    ensures { λ _. ⌜ now (output .exit) ≡ writtenTo (now (output .entry)) (imageAt order (now (keys .entry)) (now (tags .entry)) root (record { left = now (left .entry); right = now (right .entry); leader = now (leader .entry); rank = now (rank .entry); count = now (count .entry) }) (now (weights .entry)) (now (sorted .entry))) ⌝ }
+    ensures { λ r. ⌜ r ≡ length (imageAt order salt (now (keys .entry)) (now (tags .entry)) root (record { left = now (left .entry); right = now (right .entry); leader = now (leader .entry); rank = now (rank .entry); count = now (count .entry) }) (now (weights .entry)) (now (sorted .entry))) ⌝ }
+    ensures { λ _. ⌜ now (output .exit) ≡ writtenTo (now (output .entry)) (imageAt order salt (now (keys .entry)) (now (tags .entry)) root (record { left = now (left .entry); right = now (right .entry); leader = now (leader .entry); rank = now (rank .entry); count = now (count .entry) }) (now (weights .entry)) (now (sorted .entry))) ⌝ }
 {
+    let head = image_records::head_bytes(salt);
     let blocks = image_blocks::runs::count_runs(weights, sorted);
     let measured = count_measured(tags, sorted);
-    let size = HEADER_BYTES
-        + BLOCK_BYTES * blocks
-        + NODE_BYTES * keys.len()
-        + MEASURE_BYTES * measured;
+    let size = head + BLOCK_BYTES * blocks + NODE_BYTES * keys.len() + MEASURE_BYTES * measured;
     if output.len() < size {
         return size;
     }
     let top = table_encode::key_at(keys, root);
-    image_records::put_header(output, 0, order, keys.len() as u64, blocks as u64, top);
+    image_records::put_header(
+        output,
+        0,
+        order,
+        keys.len() as u64,
+        blocks as u64,
+        top,
+        salt,
+    );
     put_blocks(
         keys,
         tags,
@@ -230,6 +236,7 @@ pub fn emit(
         weights,
         sorted,
         output,
+        head,
     );
     size
 }

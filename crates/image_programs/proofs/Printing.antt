@@ -90,7 +90,7 @@ module _ (bytes : List ℕ) (none : programRefusal bytes ≡ 0) where
       record {
         short = short;
         image = one;
-        valid = record { order-right = valid .order-right; keys-right = valid .keys-right; keys-rise = valid .keys-rise; keys-fit = few; measures-right = valid .measures-right };
+        valid = record { order-right = valid .order-right; salt-right = valid .salt-right; keys-right = valid .keys-right; keys-rise = valid .keys-rise; keys-fit = few; measures-right = valid .measures-right };
         table =
             e
             ∙ ap (λ (number : ℕ). unlessRefused number (fresh (slotsFor (length words)) (readImage bytes)) words) (refusal-is words bytes long ∙ none)

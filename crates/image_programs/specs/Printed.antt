@@ -23,13 +23,13 @@ use Rattle.image_programs.specs.declared.Kind.the-variants.{Listing, Pag
 abbrev pub programSlots : ℕ
 programSlots = 1000
 
--- "its byte limit becomes 50,015" (02, N4).
+-- "its byte limit is 50,023" (02, N9).
 abbrev pub programBytes : ℕ
-programBytes = 50015
+programBytes = 50023
 
 -- Room for all that is printed: at most ten bytes for each byte of an image.
 abbrev pub programRoom : ℕ
-programRoom = 500150
+programRoom = 500230
 
 -- Why the image is turned down: 6, or 10 where it has more keys than the program has slots; zero where it is not.
 unfoldable pub programRefusal : List ℕ → ℕ

@@ -21,7 +21,7 @@ pub enum Kind {
 }
 
 // The most bytes that a program reads.
-const PROGRAM_BYTES: usize = 50015;
+const PROGRAM_BYTES: usize = 50023;
 
 // The refusal of an image that is read into a table of 1,000 slots; 0 for none, and then it is read.
 fn refusal_in(table: &mut [u64], image: &[u8]) -> u64
@@ -100,7 +100,7 @@ fn print(kind: Kind, image: &[u8], output: &mut [u8]) -> usize
     requires { ⌜ programRoom ≤ length (now output) ⌝ }
     ensures { λ r. ⌜ Written (now (output .entry)) 0 (printed kind (now (image .entry))) (now (output .exit)) r ⌝ }
 {
-    let mut table = [0u64; 8003];
+    let mut table = [0u64; 8004];
     print_in(kind, &mut table, image, output)
 }
 

@@ -12,9 +12,10 @@ use Rattle.table.specs.Tags.{tagsIn, Beside}
 use Rattle.table.proofs.Tagged.{beside-of}
 use Rattle.table_prepare.specs.Prepared.{Keys}
 use Rattle.table_prepare.proofs.Writable.{valid-keys}
-use Rattle.image.specs.Layout.{headerBytes, orderAt}
-use Rattle.image.specs.Image.{fieldAt, readImage, isImage}
+use Rattle.image.specs.Layout.{orderAt}
+use Rattle.image.specs.Image.{headerSpan, fieldAt, readImage, isImage}
 use Rattle.image.proofs.Lengths.{image-length}
+use Rattle.image.proofs.Reading.{span-read}
 use Rattle.image.proofs.Judging.{is-image-exactly}
 use Rattle.image_recognize.specs.declared.Recognized.{Recognized}
 use Rattle.image_recognize.specs.declared.Recognized.the-variants.{Image, Other}
@@ -45,7 +46,7 @@ module _ (bytes : List ℕ) where
   unfolding recognized
   told-number n e = sym (ap sizeIn e) ∙ ap (λ b. sizeIn (cond b (Image (length (keysIn (readImage bytes)))) Other)) (told-image n e)
 
-  -- the order and the keys of an image can be written, with the tags beside them
+  -- the order and the keys of an image can be written, under any salt, with the tags beside them
   pub image-keys : Valid mostSlots (readImage bytes) → (order : ℕ) → order ≡ fieldAt orderAt orderBytes bytes → (keys : List ℕ) → keys ≡ keysIn (readImage bytes)
       → Keys order keys
   unfolding readImage
@@ -55,5 +56,7 @@ module _ (bytes : List ℕ) where
   pub image-beside : Valid mostSlots (readImage bytes) → (keys tags : List ℕ) → keys ≡ keysIn (readImage bytes) → tags ≡ tagsIn (readImage bytes) → Beside keys tags
   image-beside valid keys tags e f = beside-of (readImage bytes .entries) (valid .measures-right) e f
 
-  pub image-header : Valid mostSlots (readImage bytes) → isImage bytes ≡ true → headerBytes ≤ length bytes
-  image-header valid one = omega (arith, ap length (is-image-exactly bytes one), image-length (readImage bytes) valid)
+  pub image-header : Valid mostSlots (readImage bytes) → isImage bytes ≡ true → headerSpan bytes ≤ length bytes
+  image-header valid one =
+      let exactly = is-image-exactly bytes one in
+      omega (arith, ap headerSpan exactly, span-read (readImage bytes) valid, ap length exactly, image-length (readImage bytes) valid)

@@ -27,7 +27,7 @@ use Rattle.table_decode.proofs.SortedInPlace as Sorted
 use Rattle.table_prepare.specs.Prepared.{Keys}
 use Rattle.table_prepare.proofs.Writable.{writable}
 use Rattle.image.specs.Layout.{orderAt, mostBytes, IsByte}
-use Rattle.image.specs.Image.{imageOf, fieldAt, readImage, isImage}
+use Rattle.image.specs.Image.{imageOf, saltShown, fieldAt, readImage, isImage}
 use Rattle.image.proofs.Judging.{is-image-says, is-image-exactly}
 use Rattle.image.proofs.Lengths.{image-longest}
 use Rattle.image_parts.specs.Written.{writtenTo}
@@ -39,13 +39,17 @@ use Rattle.image_recognize.specs.declared.Recognized.the-variants.{Image
 use Rattle.image_recognize.specs.Recognize.{recognized}
 
 module _ (bytes : List ℕ) where
-  -- The order and the keys that the bytes show.
+  -- The order that the bytes show.
   abbrev pub orderShown : ℕ
   orderShown = fieldAt orderAt orderBytes bytes
 
   pub order-is : readImage bytes .order ≡ orderShown
   unfolding readImage
   order-is = refl
+
+  pub salt-is : readImage bytes .salt ≡ saltShown bytes
+  unfolding readImage
+  salt-is = refl
 
   pub entries-are : readImage bytes .entries ≡ sortBy keyBelow (entriesOf bytes)
   unfolding readImage entriesOf blocksOf
@@ -61,8 +65,8 @@ module _ (bytes : List ℕ) where
       (all-permuted (λ e. rightMeasure e ≡ true) (Permᴰ·symm (sortBy-permutes keyBelow (entriesOf bytes))) (readable-right room bytes can))
 
   -- the keys with their tags are the set that the bytes show
-  pub shown-tagged : All (λ e. rightMeasure e ≡ true) (readImage bytes .entries) → tagged orderShown (keysIn (readImage bytes)) (tagsIn (readImage bytes)) ≡ readImage bytes
-  shown-tagged right = λ i. record { order = sym order-is i; entries = tagged-back (readImage bytes .entries) right i }
+  pub shown-tagged : All (λ e. rightMeasure e ≡ true) (readImage bytes .entries) → tagged orderShown (saltShown bytes) (keysIn (readImage bytes)) (tagsIn (readImage bytes)) ≡ readImage bytes
+  shown-tagged right = λ i. record { order = sym order-is i; salt = sym salt-is i; entries = tagged-back (readImage bytes .entries) right i }
 
   -- ---- bytes that are no image
   other : isImage bytes ≡ false → Other ≡ recognized bytes

@@ -50,6 +50,7 @@ fn recognize_within(
     let Collected::Keys(n) = found else {
         return Recognized::Other;
     };
+    let salt = image_collect::salt_shown(image);
     let order = image_fields::get(image, ORDER_AT, ORDER_BYTES);
     if !intervals::is_within(order, LEAST_ORDER, GREATEST_ORDER) {
         return Recognized::Other;
@@ -59,7 +60,14 @@ fn recognize_within(
         return Recognized::Other;
     }
     let size = image.len();
-    let written = image_write::write(order, &keys[..n], &tags[..n], &mut copy[..size], constants);
+    let written = image_write::write(
+        order,
+        &keys[..n],
+        &tags[..n],
+        &mut copy[..size],
+        constants,
+        salt,
+    );
     if written != size {
         return Recognized::Other;
     }
@@ -97,7 +105,7 @@ fn recognize_few(
     )
 }
 
-// An image of up to 204,815 bytes.
+// An image of up to 204,823 bytes.
 fn recognize_many(
     image: &[u8],
     keys: &mut [u64],

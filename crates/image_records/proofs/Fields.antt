@@ -4,12 +4,13 @@ use mathlib.Core.Logic.{_≢_}
 use mathlib.Core.Path.{_≡_, refl, ap, _∙_, subst}
 use Prim.Native.Nat.{ℕ, _+_, _≤_}
 use native.Mathlib.Omega.{arith}
-use lib.ListN.{length, set}
+use lib.ListN.{length, set, drop}
 use borrow.Author.Tests.{eq-eqb, ne-eqb}
 use Rattle.lists.specs.Lists.{overwrite}
 use Rattle.lists.proofs.Parts.{set-is, overwrite-more, overwrite-next}
 use Rattle.treap.specs.Image.{littleEndian, orderBytes, countBytes, keyBytes, lengthBytes, correctionBytes, headerMark, blockMark, nodeMark, measuredMark, headerRecord, blockRecord, nodeFields, nodeRecord}
-use Rattle.image.specs.Layout.{headerBytes, blockBytes, nodeBytes, measureBytes, recordBytes, lengthAt, correctionAt}
+use Rattle.image.specs.Layout.{headerBytes, saltBytes, headBytes, blockBytes, nodeBytes, measureBytes, recordBytes, saltAt, lengthAt, correctionAt}
+use Rattle.image.specs.Image.{saltedMark, salted}
 
 -- the two bytes of a mark
 pub mark-written : (before : List ℕ) (at a b : ℕ) → at + 2 ≤ length before → set (set before at a) (at + 1) b ≡ overwrite before at (a ∷ b ∷ [])
@@ -23,20 +24,47 @@ field-written : (before : List ℕ) (at : ℕ) (part output field next : List �
 field-written before at part output field next i e h o n =
     n ∙ ap (λ (xs : List ℕ). overwrite xs (at + i) field) o ∙ overwrite-next at (at + i) part before (omega arith) (omega arith) field h
 
-pub header-written : (before marked ordered sized counted output : List ℕ) (at order size blocks root : ℕ) → at + headerBytes ≤ length before
-    → marked ≡ overwrite before at headerMark
+-- the mark and the fields that every header has
+pub head-written : (before marked ordered sized counted output : List ℕ) (at kind order size blocks root : ℕ) → at + headerBytes ≤ length before
+    → marked ≡ overwrite before at (76 ∷ kind ∷ [])
     → ordered ≡ overwrite marked (at + 2) (littleEndian orderBytes order)
     → sized ≡ overwrite ordered (at + 3) (littleEndian countBytes size)
     → counted ≡ overwrite sized (at + 5) (littleEndian countBytes blocks)
     → output ≡ overwrite counted (at + 7) (littleEndian keyBytes root)
-    → output ≡ overwrite before at (headerRecord order size blocks root)
+    → output ≡ overwrite before at ((76 ∷ kind ∷ []) ++ drop 2 (headerRecord order size blocks root))
 unfolding headerRecord
-header-written before marked ordered sized counted output at order size blocks root h m o s c r =
-    let part = headerMark ++ littleEndian orderBytes order in
-    let e = field-written before at headerMark marked (littleEndian orderBytes order) ordered 2 refl (omega arith) m o in
+head-written before marked ordered sized counted output at kind order size blocks root h m o s c r =
+    let mark : List ℕ = 76 ∷ kind ∷ [] in
+    let part = mark ++ littleEndian orderBytes order in
+    let e = field-written before at mark marked (littleEndian orderBytes order) ordered 2 refl (omega arith) m o in
     let f = field-written before at part ordered (littleEndian countBytes size) sized 3 refl (omega arith) e s in
     let g = field-written before at (part ++ littleEndian countBytes size) sized (littleEndian countBytes blocks) counted 5 refl (omega arith) f c in
     field-written before at (part ++ littleEndian countBytes size ++ littleEndian countBytes blocks) counted (littleEndian keyBytes root) output 7 refl (omega arith) g r
+
+-- ---- the header, by whether it has a salt
+module _ (before output : List ℕ) (at order size blocks root salt : ℕ) where
+  pub unsalted-room : salt ≡ 0 → at + headBytes salt ≤ length before → at + headerBytes ≤ length before
+  unsalted-room e room = subst (λ (n : ℕ). at + headBytes n ≤ length before) e room
+
+  pub unsalted-written : salt ≡ 0 → output ≡ overwrite before at (headerMark ++ drop 2 (headerRecord order size blocks root))
+      → output ≡ overwrite before at (salted salt (headerRecord order size blocks root))
+  unfolding salted headerRecord
+  unsalted-written e o = rw (eq-eqb salt 0 e) o
+
+  pub salted-room : salt ≢ 0 → at + headBytes salt ≤ length before → at + headerBytes + saltBytes ≤ length before
+  salted-room d room =
+      let same : headBytes salt ≡ headerBytes + saltBytes = rw (ne-eqb salt 0 d) in
+      omega arith
+
+  pub salted-written : (common : List ℕ) → salt ≢ 0 → at + headBytes salt ≤ length before
+      → common ≡ overwrite before at (saltedMark ++ drop 2 (headerRecord order size blocks root))
+      → output ≡ overwrite common (at + saltAt) (littleEndian saltBytes salt)
+      → output ≡ overwrite before at (salted salt (headerRecord order size blocks root))
+  unfolding salted headerRecord
+  salted-written common d room c s =
+      let part = saltedMark ++ drop 2 (headerRecord order size blocks root) in
+      let fits = salted-room d room in
+      rw (ne-eqb salt 0 d) (field-written before at part common (littleEndian saltBytes salt) output saltAt refl (omega arith) c s)
 
 pub block-written : (before marked led leveled output : List ℕ) (at leader level held : ℕ) → at + blockBytes ≤ length before
     → marked ≡ overwrite before at blockMark

@@ -2,16 +2,18 @@
 ghost use mathlib.Core.Path.{_≡_};
 ghost use mathlib.Core.List.{_∷_, [], _++_};
 ghost use Prim.Native.Nat.{_+_, _≤_};
-ghost use lib.ListN.{length};
+ghost use lib.ListN.{length, drop};
 ghost use Rattle.lists.specs.Lists.{overwrite};
 ghost use Rattle.treap.specs.Image.{headerRecord, blockRecord, nodeFields, nodeRecord};
-ghost use Rattle.image.specs.Layout.{headerBytes, blockBytes, nodeBytes, recordBytes};
+ghost use Rattle.image.specs.Layout.{headerBytes, headBytes, blockBytes, nodeBytes, recordBytes};
+ghost use Rattle.image.specs.Image.{salted};
 use image::BLOCK_MARK;
 use image::BLOCKS_AT;
 use image::CORRECTION_AT;
 use image::CORRECTION_BYTES;
 use image::COUNT_AT;
 use image::COUNT_BYTES;
+use image::HEADER_BYTES;
 use image::HEADER_MARK;
 use image::HELD_AT;
 use image::KEY_AT;
@@ -31,6 +33,9 @@ use image::ORDER_BYTES;
 use image::RANK_AT;
 use image::RIGHT_AT;
 use image::ROOT_AT;
+use image::SALT_AT;
+use image::SALT_BYTES;
+use image::SALTED_MARK;
 use image::SIZE_AT;
 
 // Write the two bytes of a mark, from byte `at` on.
@@ -42,16 +47,47 @@ fn put_mark(output: &mut [u8], at: usize, kind: u8)
     output[at + 1] = kind;
 }
 
-// Write the header record. Internal to this library's crates: their outputs have room for it.
-pub fn put_header(output: &mut [u8], at: usize, order: u64, size: u64, blocks: u64, root: u64)
-    requires { ⌜ at + headerBytes ≤ length (now output) ⌝ }
-    ensures { λ _. ⌜ now (output .exit) ≡ overwrite (now (output .entry)) at (headerRecord order size blocks root) ⌝ }
+// How many bytes the header of an image with this salt has. Internal to this library's crates.
+pub fn head_bytes(salt: u64) -> usize
+    ensures { λ r. ⌜ r ≡ headBytes salt ⌝ }
 {
-    put_mark(output, at, HEADER_MARK);
+    if salt == 0 {
+        return HEADER_BYTES;
+    }
+    HEADER_BYTES + SALT_BYTES
+}
+
+// Write a mark and the fields that every header has: the order, the number of keys, that of blocks, and the root key.
+fn put_head(output: &mut [u8], at: usize, kind: u8, order: u64, size: u64, blocks: u64, root: u64)
+    requires { ⌜ at + headerBytes ≤ length (now output) ⌝ }
+    ensures { λ _. ⌜ now (output .exit) ≡ overwrite (now (output .entry)) at ((76 ∷ kind ∷ []) ++ drop 2 (headerRecord order size blocks root)) ⌝ }
+{
+    put_mark(output, at, kind);
     image_fields::put(output, at + ORDER_AT, ORDER_BYTES, order);
     image_fields::put(output, at + SIZE_AT, COUNT_BYTES, size);
     image_fields::put(output, at + BLOCKS_AT, COUNT_BYTES, blocks);
     image_fields::put(output, at + ROOT_AT, KEY_BYTES, root);
+}
+
+// Write the header record, with the salt where it is not zero. Internal to this library's crates: their outputs have room for it.
+pub fn put_header(
+    output: &mut [u8],
+    at: usize,
+    order: u64,
+    size: u64,
+    blocks: u64,
+    root: u64,
+    salt: u64,
+)
+    requires { ⌜ at + headBytes salt ≤ length (now output) ⌝ }
+    ensures { λ _. ⌜ now (output .exit) ≡ overwrite (now (output .entry)) at (salted salt (headerRecord order size blocks root)) ⌝ }
+{
+    if salt == 0 {
+        put_head(output, at, HEADER_MARK, order, size, blocks, root);
+        return;
+    }
+    put_head(output, at, SALTED_MARK, order, size, blocks, root);
+    image_fields::put(output, at + SALT_AT, SALT_BYTES, salt);
 }
 
 // Write the record of a block: its leader key, its level and how many keys it holds. Internal to this library's crates: their outputs

@@ -8,7 +8,7 @@ use lib.ListN.{length, getD, take, drop, length-map}
 use Rattle.lists.specs.Lists.{All, upFrom, overwrite}
 use Rattle.lists.proofs.Start.{starts-and, starts-with}
 use Rattle.lists.proofs.UpFrom.{upFrom-length}
-use Rattle.priority.specs.Priority.{priorityOf}
+use Rattle.priority.specs.Priority.{priorityWith}
 use Rattle.sorting.specs.ByWeight.{byWeight}
 use Rattle.sorting.proofs.ByWeight.{byWeight-length, byWeight-within}
 use Rattle.treap.specs.Treap.{top, leftLink, rightLink}
@@ -28,15 +28,15 @@ pub weights-length : (root : ℕ) (rank leader : List ℕ) (n : ℕ) → length 
 unfolding blockWeights
 weights-length root rank leader n = length-map (upFrom 0 n) (blockWeight root rank leader) ∙ upFrom-length 0 n
 
-module _ (order : ℕ) (ks : List ℕ) (right-keys : Keys order ks) (left right rank count lead : List ℕ) (filled : Filled order (map priorityOf ks) left right rank count lead) where
+module _ (order salt : ℕ) (ks : List ℕ) (right-keys : Keys order ks) (left right rank count lead : List ℕ) (filled : Filled order (map (priorityWith salt) ks) left right rank count lead) where
   abbrev ws : List ℕ
-  ws = map priorityOf ks
+  ws = map (priorityWith salt) ks
 
   abbrev m : ℕ
   m = length ws
 
   as-many : m ≡ length ks
-  as-many = length-map ks priorityOf
+  as-many = length-map ks (priorityWith salt)
 
   long : (column : List ℕ) (g : ℕ → ℕ) → take m column ≡ map g (positions m) → length ks ≤ length column
   long column g e = let h = room column (map g (positions m)) m e (column-length g m) in omega (arith, as-many)
@@ -74,7 +74,7 @@ module _ (order : ℕ) (ks : List ℕ) (right-keys : Keys order ks) (left right 
       }
 
   -- the columns, with the number of keys for that of the weights
-  pub columns-right : Right order ks (record { left = left; right = right; leader = lead; rank = rank; count = count })
+  pub columns-right : Right order salt ks (record { left = left; right = right; leader = lead; rank = rank; count = count })
   columns-right =
       record {
         lefts = over left (leftColumn ws) (filled .lefts);
@@ -88,22 +88,22 @@ module _ (order : ℕ) (ks : List ℕ) (right-keys : Keys order ks) (left right 
       over column g e = subst (λ (k : ℕ). take k column ≡ g k) as-many e
 
 -- ---- what the parts yield together
-module _ (order : ℕ) (ks weights : List ℕ) (weights-are : take (length ks) weights ≡ map priorityOf ks) where
-  pub filled-from : (left right rank count lead : List ℕ) → Filled order (take (length ks) weights) left right rank count lead → Filled order (map priorityOf ks) left right rank count lead
+module _ (order salt : ℕ) (ks weights : List ℕ) (weights-are : take (length ks) weights ≡ map (priorityWith salt) ks) where
+  pub filled-from : (left right rank count lead : List ℕ) → Filled order (take (length ks) weights) left right rank count lead → Filled order (map (priorityWith salt) ks) left right rank count lead
   filled-from left right rank count lead f = subst (λ (w : List ℕ). Filled order w left right rank count lead) weights-are f
 
   pub root-from : (root : ℕ) → root ≡ top (weightAt (take (length ks) weights)) (positions (length (take (length ks) weights)))
-      → root ≡ top (weightAt (map priorityOf ks)) (positions (length ks))
-  root-from root r = r ∙ ap₂ (λ (w : List ℕ) (n : ℕ). top (weightAt w) (positions n)) weights-are (many-weights ks weights weights-are)
+      → root ≡ top (weightAt (map (priorityWith salt) ks)) (positions (length ks))
+  root-from root r = r ∙ ap₂ (λ (w : List ℕ) (n : ℕ). top (weightAt w) (positions n)) weights-are (many-weights salt ks weights weights-are)
 
-pub arranged-from : (order : ℕ) (ks left right rank count lead : List ℕ) (root : ℕ)
-    → root ≡ top (weightAt (map priorityOf ks)) (positions (length ks))
-    → Filled order (map priorityOf ks) left right rank count lead
+pub arranged-from : (order salt : ℕ) (ks left right rank count lead : List ℕ) (root : ℕ)
+    → root ≡ top (weightAt (map (priorityWith salt) ks)) (positions (length ks))
+    → Filled order (map (priorityWith salt) ks) left right rank count lead
     → (weights before sorted other : List ℕ)
     → weights ≡ overwrite before 0 (blockWeights root rank lead (length ks))
     → sorted ≡ byWeight (take (length ks) weights) ++ drop (length ks) other
-    → Arranged order ks weights sorted left right rank count lead root
-arranged-from order ks left right rank count lead root r f weights before sorted other w s =
+    → Arranged order salt ks weights sorted left right rank count lead root
+arranged-from order salt ks left right rank count lead root r f weights before sorted other w s =
     let n = length ks in
     let weighed : take n weights ≡ blockWeights root rank lead n = starts-with weights before (blockWeights root rank lead n) n w (weights-length root rank lead n) in
     record {
@@ -116,7 +116,7 @@ arranged-from order ks left right rank count lead root r f weights before sorted
     }
 
 -- ---- the indices in the image's order are as many as the keys, and indices of keys
-module _ (order : ℕ) (ks weights sorted left right rank count lead : List ℕ) (root : ℕ) (made : Arranged order ks weights sorted left right rank count lead root) where
+module _ (order salt : ℕ) (ks weights sorted left right rank count lead : List ℕ) (root : ℕ) (made : Arranged order salt ks weights sorted left right rank count lead root) where
   pub as-many-weights : length (take (length ks) weights) ≡ length ks
   as-many-weights = ap length (made .weighed) ∙ weights-length root rank lead (length ks)
 

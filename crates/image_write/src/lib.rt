@@ -1,4 +1,4 @@
-// Writing the image of an order and keys with their measures.
+// Writing the image of an order, a salt and keys with their measures.
 ghost use mathlib.Core.Path.{_≡_};
 ghost use Prim.Native.Nat.{_≤_};
 ghost use lib.ListN.{length};
@@ -23,15 +23,16 @@ fn arrange(
     leader: &mut [u16],
     spare: &mut [u16],
     constants: &[u64; CONSTANT_COUNT],
+    salt: u64,
 ) -> usize
     requires { ⌜ Keys order (now keys) ⌝ }
     requires { ⌜ (length (now keys) ≤ length (now weights)) × (length (now keys) ≤ length (now sorted)) × (length (now keys) ≤ length (now spare)) ⌝ }
     requires { ⌜ (length (now keys) ≤ length (now left)) × (length (now keys) ≤ length (now right)) ⌝ }
     requires { ⌜ (length (now keys) ≤ length (now rank)) × (length (now keys) ≤ length (now count)) × (length (now keys) ≤ length (now leader)) × HoldsConstants (now constants) ⌝ }
-    ensures { λ r. ⌜ Arranged order (now (keys .entry)) (now (weights .exit)) (now (sorted .exit)) (now (left .exit)) (now (right .exit)) (now (rank .exit)) (now (count .exit)) (now (leader .exit)) r ⌝ }
+    ensures { λ r. ⌜ Arranged order salt (now (keys .entry)) (now (weights .exit)) (now (sorted .exit)) (now (left .exit)) (now (right .exit)) (now (rank .exit)) (now (count .exit)) (now (leader .exit)) r ⌝ }
 {
     let n = keys.len();
-    table_prepare::prioritize(keys, weights, sorted, spare, constants);
+    table_prepare::prioritize(keys, weights, sorted, spare, constants, salt);
     let root = table_prepare::fill(
         &weights[..n],
         order,
@@ -47,7 +48,7 @@ fn arrange(
     root
 }
 
-// Write the image of the order and the keys with their tags, with lists to work in, each at least as long as the keys; what they then
+// Write the image of the order, the salt and the keys with their tags, with lists to work in, each at least as long as the keys; what they then
 // hold is left open.
 fn write_within(
     order: u64,
@@ -63,13 +64,14 @@ fn write_within(
     spare: &mut [u16],
     output: &mut [u8],
     constants: &[u64; CONSTANT_COUNT],
+    salt: u64,
 ) -> usize
     requires { ⌜ Keys order (now keys) × Beside (now keys) (now tags) ⌝ }
     requires { ⌜ (length (now keys) ≤ length (now weights)) × (length (now keys) ≤ length (now sorted)) × (length (now keys) ≤ length (now spare)) ⌝ }
     requires { ⌜ (length (now keys) ≤ length (now left)) × (length (now keys) ≤ length (now right)) ⌝ }
     requires { ⌜ (length (now keys) ≤ length (now rank)) × (length (now keys) ≤ length (now count)) × (length (now keys) ≤ length (now leader)) × HoldsConstants (now constants) ⌝ }
-    ensures { λ r. ⌜ r ≡ length (imageOf (tagged order (now (keys .entry)) (now (tags .entry)))) ⌝ }
-    ensures { λ _. ⌜ now (output .exit) ≡ writtenTo (now (output .entry)) (imageOf (tagged order (now (keys .entry)) (now (tags .entry)))) ⌝ }
+    ensures { λ r. ⌜ r ≡ length (imageOf (tagged order salt (now (keys .entry)) (now (tags .entry)))) ⌝ }
+    ensures { λ _. ⌜ now (output .exit) ≡ writtenTo (now (output .entry)) (imageOf (tagged order salt (now (keys .entry)) (now (tags .entry)))) ⌝ }
 {
     let n = keys.len();
     let root = arrange(
@@ -84,6 +86,7 @@ fn write_within(
         leader,
         spare,
         constants,
+        salt,
     );
     image_parts::emit(
         order,
@@ -98,10 +101,11 @@ fn write_within(
         &weights[..n],
         &sorted[..n],
         output,
+        salt,
     )
 }
 
-// Write the image of the order and the keys with their tags to the start of `output` where it has room for it, and no byte where it has
+// Write the image of the order, the salt and the keys with their tags to the start of `output` where it has room for it, and no byte where it has
 // not. The image's length, in either case. Internal to this library's crates: they lend the constants of the priorities.
 pub fn write(
     order: u64,
@@ -109,10 +113,11 @@ pub fn write(
     tags: &[u64],
     output: &mut [u8],
     constants: &[u64; CONSTANT_COUNT],
+    salt: u64,
 ) -> usize
     requires { ⌜ Keys order (now keys) × Beside (now keys) (now tags) × HoldsConstants (now constants) ⌝ }
-    ensures { λ r. ⌜ r ≡ length (imageOf (tagged order (now (keys .entry)) (now (tags .entry)))) ⌝ }
-    ensures { λ _. ⌜ now (output .exit) ≡ writtenTo (now (output .entry)) (imageOf (tagged order (now (keys .entry)) (now (tags .entry)))) ⌝ }
+    ensures { λ r. ⌜ r ≡ length (imageOf (tagged order salt (now (keys .entry)) (now (tags .entry)))) ⌝ }
+    ensures { λ _. ⌜ now (output .exit) ≡ writtenTo (now (output .entry)) (imageOf (tagged order salt (now (keys .entry)) (now (tags .entry)))) ⌝ }
 {
     let mut weights = [0u64; 4096];
     let mut sorted = [0u16; 4096];
@@ -136,5 +141,6 @@ pub fn write(
         &mut spare,
         output,
         constants,
+        salt,
     )
 }

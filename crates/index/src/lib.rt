@@ -1,6 +1,6 @@
 // The calls of the index. Each takes any words, numbers and bytes; what it refuses it leaves as it was.
 
-// Make a table: the blank one of an order, that of an order and a strictly rising list of keys with their measures, that of an image, or that of a load.
+// Make a table: the blank one of an order and a salt, that of these and a strictly rising list of keys with their measures, that of an image, or that of a load.
 pub use call_build::build;
 pub use call_build::set_up;
 pub use call_image::read;

@@ -5,7 +5,7 @@ use native.Mathlib.Nat.{mod-lt}
 use lib.Bits.{xor-lt}
 use lib.Dec.{lit<}
 use lib.Pow.{pow-pos}
-use Rattle.priority.specs.Priority.{constantAt, term, xorOfTerms, keyBytes, priorityOf, homeOf}
+use Rattle.priority.specs.Priority.{constantAt, term, xorOfTerms, keyBytes, priorityOf, priorityWith, homeOf}
 
 pub constantAt-below : (index : ℕ) → constantAt index < 2 ^ 64
 unfolding constantAt
@@ -17,9 +17,9 @@ unfolding xorOfTerms
 xorOfTerms-below k zero = pow-pos 64
 xorOfTerms-below k (suc j) = xor-lt 64 (xorOfTerms k j) (term k j) (xorOfTerms-below k j) (constantAt-below _)
 
-pub priorityOf-below : (k : ℕ) → priorityOf k < 2 ^ 64
-unfolding priorityOf
-priorityOf-below k = xorOfTerms-below k keyBytes
+pub priorityWith-below : (salt k : ℕ) → priorityWith salt k < 2 ^ 64
+unfolding priorityOf priorityWith
+priorityWith-below salt k = xorOfTerms-below _ keyBytes
 
 pub homeOf-below : (priority : ℕ) {slots : ℕ} → 0 < slots → homeOf priority slots < slots
 homeOf-below priority positive = mod-lt _ positive

@@ -1,4 +1,4 @@
--- Priorities and homes of keys: the definitions of document 01, sections "Priority" and "The table's words".
+-- Priorities and homes of keys: the definitions of document 01, sections "Priority" and "The table's words", and the salt of document 02, N9.
 -- Assumes nothing.
 use mathlib.Core.Path.{_≡_}
 use mathlib.Core.List.{List, map, _++_}
@@ -46,9 +46,13 @@ xorOfTerms k (suc j) = bitXor (xorOfTerms k j) (term k j)
 unfoldable pub priorityOf : ℕ → ℕ
 priorityOf k = xorOfTerms k keyBytes
 
--- `words` with its first entries replaced by the priorities of `keys`, in their order.
-abbrev pub prioritiesOver : List ℕ → List ℕ → List ℕ
-prioritiesOver keys words = map priorityOf keys ++ drop (length keys) words
+-- "The priority of k, in its home too, becomes P of the exclusive or of k and the salt" (02, N9).
+unfoldable pub priorityWith : ℕ → ℕ → ℕ
+priorityWith salt k = priorityOf (bitXor k salt)
+
+-- `words` with its first entries replaced by the priorities of `keys` under a salt, in their order.
+abbrev pub prioritiesOver : ℕ → List ℕ → List ℕ → List ℕ
+prioritiesOver salt keys words = map (priorityWith salt) keys ++ drop (length keys) words
 
 -- What a priority is divided by on the way to a home.
 abbrev pub homeDivisor : ℕ

@@ -1,9 +1,9 @@
-// The priority and the home of a key, as document 01 defines them in "Priority" and "The table's words".
+// The priority and the home of a key, as document 01 defines them in "Priority" and "The table's words", under a salt (document 02, N9).
 // Assumes nothing.
 ghost use mathlib.Core.Path.{_≡_};
 ghost use Prim.Native.Nat.{_<_, _≤_};
 ghost use lib.ListN.{length};
-ghost use Rattle.priority.specs.Priority.{HoldsConstants, priorityOf, prioritiesOver, homeOf};
+ghost use Rattle.priority.specs.Priority.{HoldsConstants, priorityOf, priorityWith, prioritiesOver, homeOf};
 
 mod constants;
 
@@ -23,14 +23,13 @@ pub fn constant_table() -> [u64; CONSTANT_COUNT]
     CONSTANTS
 }
 
-// The priority of `key`: the exclusive or of one constant for each of its bytes, the lowest first.
-// Internal to this library's crates: they lend the table of the constants.
-pub fn priority_from(constants: &[u64; CONSTANT_COUNT], key: u64) -> u64
+// P of a number: the exclusive or of one constant for each of its bytes, the lowest first.
+fn mix(constants: &[u64; CONSTANT_COUNT], number: u64) -> u64
     requires { ⌜ HoldsConstants (now constants) ⌝ }
-    ensures { λ r. ⌜ r ≡ priorityOf key ⌝ }
+    ensures { λ r. ⌜ r ≡ priorityOf number ⌝ }
 {
     let mut joined = 0;
-    let mut rest = key;
+    let mut rest = number;
     for position in 0..KEY_BYTES {
         let index = (BYTE_VALUES * position + rest % BYTE_VALUES) as usize;
         joined ^= constants[index];
@@ -39,15 +38,29 @@ pub fn priority_from(constants: &[u64; CONSTANT_COUNT], key: u64) -> u64
     joined
 }
 
-// Write the priorities of `keys`, in their order, at the start of `output`.
+// The priority of `key` under a salt.
+// Internal to this library's crates: they lend the table of the constants.
+pub fn priority_from(constants: &[u64; CONSTANT_COUNT], key: u64, salt: u64) -> u64
+    requires { ⌜ HoldsConstants (now constants) ⌝ }
+    ensures { λ r. ⌜ r ≡ priorityWith salt key ⌝ }
+{
+    mix(constants, key ^ salt)
+}
+
+// Write the priorities of `keys` under a salt, in their order, at the start of `output`.
 // Internal to this library's crates: they lend the table of the constants, and their outputs have room for every key.
-pub fn priorities_from(constants: &[u64; CONSTANT_COUNT], keys: &[u64], output: &mut [u64])
+pub fn priorities_from(
+    constants: &[u64; CONSTANT_COUNT],
+    keys: &[u64],
+    output: &mut [u64],
+    salt: u64,
+)
     requires { ⌜ HoldsConstants (now constants) ⌝ }
     requires { ⌜ length (now keys) ≤ length (now output) ⌝ }
-    ensures { λ _. ⌜ now (output .exit) ≡ prioritiesOver (now (keys .entry)) (now (output .entry)) ⌝ }
+    ensures { λ _. ⌜ now (output .exit) ≡ prioritiesOver salt (now (keys .entry)) (now (output .entry)) ⌝ }
 {
     for i in 0..keys.len() {
-        output[i] = priority_from(constants, keys[i]);
+        output[i] = priority_from(constants, keys[i], salt);
     }
 }
 

@@ -81,13 +81,15 @@ fn refused(reason: Refusal) {
     tell(call_replies::number(reason));
 }
 
-pub fn set_up(table: &mut [u64], order: u64) {
+pub fn set_up(table: &mut [u64], order: u64, salt: u64) {
     say(b"set-up of words");
     tell(table.len() as u64);
     say(b" order");
     tell(order);
+    say(b" salt");
+    tell(salt);
     say(b":");
-    let answer = index::set_up(table, order);
+    let answer = index::set_up(table, order, salt);
     match answer {
         SetUp::Done => tell(0),
         SetUp::Refused(reason) => refused(reason),
@@ -111,9 +113,18 @@ pub fn load(table: &mut [u64], order: u64, seed: u64, count: u16) {
     say(b"\n");
 }
 
-pub fn build(table: &mut [u64], order: u64, list: &[u64], lengths: &[u64], corrections: &[i32]) {
+pub fn build(
+    table: &mut [u64],
+    order: u64,
+    salt: u64,
+    list: &[u64],
+    lengths: &[u64],
+    corrections: &[i32],
+) {
     say(b"build of order");
     tell(order);
+    say(b" salt");
+    tell(salt);
     say(b" from");
     tell_all(list);
     say(b" lengths");
@@ -121,7 +132,7 @@ pub fn build(table: &mut [u64], order: u64, list: &[u64], lengths: &[u64], corre
     say(b" corrections");
     tell_corrections(corrections);
     say(b":");
-    let answer = index::build(table, order, list, lengths, corrections);
+    let answer = index::build(table, order, salt, list, lengths, corrections);
     match answer {
         Built::Done => tell(0),
         Built::Refused(reason) => refused(reason),

@@ -1,19 +1,19 @@
 // Runs the calls: first on the figures of documents 01 and 02, then loads, then a session on three slots in which keys come with measures and
 // without, are looked up alone and together, a range is read at once and key by key and an image is written, read and listed and pages
-// are printed, then over words that are no table and a table that is not sound, and last sizes in Paris points. Every refusal of every call is met.
+// are printed, then a table with a salt, then over words that are no table and a table that is not sound, and last sizes in Paris points. Every refusal of every call is met.
 use index::Place;
 
 mod calls;
 
 // The most words that a length is tried with.
-const MOST_WORDS: usize = 32779;
+const MOST_WORDS: usize = 32780;
 
 // The words of a table of three slots and of one slot, and so many words as no table has.
-const THREE_SLOTS: usize = 27;
+const THREE_SLOTS: usize = 28;
 
-const ONE_SLOT: usize = 11;
+const ONE_SLOT: usize = 12;
 
-const NO_TABLE: usize = 26;
+const NO_TABLE: usize = 27;
 
 // The bytes of the image of three keys in one block, two of them measured.
 const THREE_KEYS: usize = 131;
@@ -22,6 +22,13 @@ const THREE_KEYS: usize = 131;
 const KEYS_AT: usize = 3;
 
 const LENGTH_AT: usize = 61;
+
+// The bytes of the image of two keys, one of them measured, with a salt; in it the second byte of its mark, and the salt's first byte.
+const TWO_SALTED: usize = 103;
+
+const MARK_AT: usize = 1;
+
+const SALT_AT: usize = 15;
 
 // Room for the listing of such an image.
 const LISTING: usize = 200;
@@ -34,17 +41,17 @@ fn set_up_first(words: &mut [u64], n: usize) {
     if words.len() < n {
         return;
     }
-    calls::set_up(&mut words[..n], 3);
+    calls::set_up(&mut words[..n], 3, 0);
 }
 
 // Lengths that are a table's and lengths that are none.
 fn lengths(words: &mut [u64]) {
-    set_up_first(words, 11);
-    set_up_first(words, 32771);
-    set_up_first(words, 3);
-    set_up_first(words, 10);
     set_up_first(words, 12);
-    set_up_first(words, 32779);
+    set_up_first(words, 32772);
+    set_up_first(words, 4);
+    set_up_first(words, 11);
+    set_up_first(words, 13);
+    set_up_first(words, 32780);
 }
 
 fn try_lengths() {
@@ -54,10 +61,10 @@ fn try_lengths() {
 
 // Orders that a table may have and orders that none has.
 fn orders(table: &mut [u64]) {
-    calls::set_up(table, 3);
-    calls::set_up(table, 255);
-    calls::set_up(table, 2);
-    calls::set_up(table, 256);
+    calls::set_up(table, 3, 0);
+    calls::set_up(table, 255, 0);
+    calls::set_up(table, 2, 0);
+    calls::set_up(table, 256, 0);
 }
 
 // Loads of no operation, of a few and of as many as there can be, and the keys that they leave; and loads of orders that no table has.
@@ -74,26 +81,26 @@ fn loads(table: &mut [u64]) {
 
 // A build from 5 and 9, neither measured.
 fn build_plain(table: &mut [u64], order: u64) {
-    calls::build(table, order, &[5, 9], &[0, 0], &[0, 0]);
+    calls::build(table, order, 0, &[5, 9], &[0, 0], &[0, 0]);
 }
 
 // A build from 5 and 9 with a length that no last has.
 fn build_outside(table: &mut [u64]) {
-    calls::build(table, 3, &[5, 9], &[9999, 0], &[0, 0]);
+    calls::build(table, 3, 0, &[5, 9], &[9999, 0], &[0, 0]);
 }
 
 // Builds from 5 and 9 that lack a length or a correction; and one whose keys do not rise either.
 fn build_short(table: &mut [u64]) {
-    calls::build(table, 3, &[9, 5], &[26500], &[-250, 0]);
-    calls::build(table, 3, &[5, 9], &[26500], &[-250, 0]);
-    calls::build(table, 3, &[5, 9], &[26500, 0], &[-250]);
+    calls::build(table, 3, 0, &[9, 5], &[26500], &[-250, 0]);
+    calls::build(table, 3, 0, &[5, 9], &[26500], &[-250, 0]);
+    calls::build(table, 3, 0, &[5, 9], &[26500, 0], &[-250]);
 }
 
 // Builds from 5 and 9 with a length or a correction left over: beside no key, or beside a key that is not measured.
 fn build_long(table: &mut [u64]) {
-    calls::build(table, 3, &[5, 9], &[26500, 0, 0], &[-250, 0]);
-    calls::build(table, 3, &[5, 9], &[26500, 0], &[-250, 0, 0]);
-    calls::build(table, 3, &[5, 9], &[26500, 0], &[-250, 1]);
+    calls::build(table, 3, 0, &[5, 9], &[26500, 0, 0], &[-250, 0]);
+    calls::build(table, 3, 0, &[5, 9], &[26500, 0], &[-250, 0, 0]);
+    calls::build(table, 3, 0, &[5, 9], &[26500, 0], &[-250, 1]);
 }
 
 // Builds that are refused, and one that is not: 5 is measured, 9 is not.
@@ -102,7 +109,7 @@ fn builds(table: &mut [u64]) {
     build_outside(table);
     build_short(table);
     build_long(table);
-    calls::build(table, 3, &[5, 9], &[26500, 0], &[-250, 0]);
+    calls::build(table, 3, 0, &[5, 9], &[26500, 0], &[-250, 0]);
 }
 
 // Keys that come with measures outside the rules: zero first, which has a refusal of its own, and a held key last.
@@ -177,7 +184,7 @@ fn change(image: &mut [u8], at: usize, byte: u8) {
 
 // An image read into a table that was blank, and the measures that it brings.
 fn read_back(table: &mut [u64], image: &[u8]) {
-    calls::set_up(table, 3);
+    calls::set_up(table, 3, 0);
     calls::read(table, image);
     calls::look_up(table, 5);
     calls::look_up(table, 7);
@@ -221,6 +228,45 @@ fn try_images(table: &mut [u64]) {
     images(table, &mut image, &mut text);
 }
 
+// Bytes of an image with a salt that are none: `LH` with the salt's bytes, and `LS` with salt zero.
+fn no_salted_image(table: &mut [u64], image: &mut [u8]) {
+    change(image, MARK_AT, b'H');
+    calls::read(table, image);
+    change(image, MARK_AT, b'S');
+    change(image, SALT_AT, 0);
+    calls::read(table, image);
+    change(image, SALT_AT, 5);
+}
+
+// A table whose salt is one of its keys, and its image.
+fn write_salted(table: &mut [u64], image: &mut [u8]) {
+    calls::build(table, 3, 5, &[5, 9], &[26500, 0], &[-250, 0]);
+    calls::look_up(table, 5);
+    calls::look_up(table, 9);
+    calls::write(table, image);
+    no_salted_image(table, image);
+}
+
+// A blank table of another salt, whose image has that too; then the table that is read of the image.
+fn read_salted(table: &mut [u64], image: &[u8], text: &mut [u8]) {
+    calls::set_up(table, 3, 7);
+    calls::write(table, text);
+    calls::read(table, image);
+    calls::look_up(table, 5);
+}
+
+fn salts(table: &mut [u64], image: &mut [u8], text: &mut [u8]) {
+    write_salted(table, image);
+    calls::list(image, text);
+    read_salted(table, image, text);
+}
+
+fn try_salts(table: &mut [u64]) {
+    let mut image = [0u8; TWO_SALTED];
+    let mut text = [0u8; LISTING];
+    salts(table, &mut image, &mut text);
+}
+
 // The pages of a table, with too little room and with room for three keys.
 fn pages(table: &[u64]) {
     let mut none = [0u8; 1];
@@ -246,7 +292,7 @@ fn use_table(table: &mut [u64]) {
 // The calls that make a table of any words, over these.
 fn make_table(table: &mut [u64]) {
     let image = [0u8; THREE_KEYS];
-    calls::set_up(table, 3);
+    calls::set_up(table, 3, 0);
     calls::load(table, 2, 0, 3);
     build_plain(table, 3);
     calls::read(table, &image);
@@ -263,7 +309,7 @@ fn no_table() {
 // Somebody else changes the number of keys of a table.
 fn spoil(table: &mut [u64]) {
     if 1 < table.len() {
-        table[1] = 2;
+        table[1] = 4;
     }
 }
 
@@ -298,7 +344,7 @@ fn main() {
     let mut table = [0u64; THREE_SLOTS];
     orders(&mut table);
     loads(&mut table);
-    calls::set_up(&mut table, 3);
+    calls::set_up(&mut table, 3, 0);
     pages(&table);
     fill(&mut table);
     ask(&table);
@@ -306,6 +352,7 @@ fn main() {
     take(&mut table);
     try_images(&mut table);
     pages(&table);
+    try_salts(&mut table);
     no_table();
     damaged(&mut table);
     sizes();

@@ -13,7 +13,7 @@ use Rattle.lists.specs.Lists.{nonzero, keep, sortBy, All}
 use Rattle.lists.proofs.Tests.{by-test}
 use Rattle.lists.proofs.Keep.{all-always}
 use Rattle.lists.proofs.Sorting.{all-permuted, length-permuted, sortBy-permutes}
-use Rattle.priority.specs.Priority.{priorityOf}
+use Rattle.priority.specs.Priority.{priorityWith}
 use Rattle.priority.proofs.Bounds.{homeOf-below}
 use Rattle.treap.specs.Treap.{outranks}
 use Rattle.treap.specs.Slots.{firstEmpty, placeAll, slotsOf}
@@ -52,20 +52,20 @@ placeAll-held home slots (x ∷ xs) h d w =
     List·Permᴰ·trans rest
     (List·Permᴰ·trans (Permᴰ·append-left xs (held-set slots at x (found .0) (found .1) (d .0))) (Permᴰ·middle x xs (held slots)))
 
-homeIn-below : (many k : ℕ) → 1 ≤ many → homeIn many k < many
+homeIn-below : (many salt k : ℕ) → 1 ≤ many → homeIn many salt k < many
 unfolding homeIn
-homeIn-below many k some = homeOf-below (priorityOf k) some
+homeIn-below many salt k some = homeOf-below (priorityWith salt k) some
 
-pub held-keys-permute : (many : ℕ) (keys : List ℕ) → 1 ≤ many → length keys ≤ many → All (λ k. k ≢ 0) keys
-    → List·Permᴰ (held (slotsOf priorityOf (homeIn many) many keys)) keys
+pub held-keys-permute : (many salt : ℕ) (keys : List ℕ) → 1 ≤ many → length keys ≤ many → All (λ k. k ≢ 0) keys
+    → List·Permᴰ (held (slotsOf (priorityWith salt) (homeIn many salt) many keys)) keys
 unfolding slotsOf
-held-keys-permute many keys some room d =
-    let sorted = sortBy (outranks priorityOf) keys in
-    let same-keys : List·Permᴰ sorted keys = sortBy-permutes (outranks priorityOf) keys in
+held-keys-permute many salt keys some room d =
+    let sorted = sortBy (outranks (priorityWith salt)) keys in
+    let same-keys : List·Permᴰ sorted keys = sortBy-permutes (outranks (priorityWith salt)) keys in
     let placed =
-    placeAll-held (homeIn many) (replicate many 0) sorted (omega (arith, length-permuted same-keys, empties-replicate many))
+    placeAll-held (homeIn many salt) (replicate many 0) sorted (omega (arith, length-permuted same-keys, empties-replicate many))
     (all-permuted (λ k. k ≢ 0) (Permᴰ·symm same-keys) d)
-    (all-always (λ k. homeIn many k < length (replicate many 0))
-    (λ k. omega (arith, homeIn-below many k some, length-replicate {A = ℕ} many 0)) sorted)
+    (all-always (λ k. homeIn many salt k < length (replicate many 0))
+    (λ k. omega (arith, homeIn-below many salt k some, length-replicate {A = ℕ} many 0)) sorted)
     in
     List·Permᴰ·trans (rw held-none at placed) (List·Permᴰ·trans (Permᴰ·append-nil sorted) same-keys)

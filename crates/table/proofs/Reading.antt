@@ -15,7 +15,7 @@ use Rattle.table.specs.Layout.{keyIn}
 use Rattle.table.specs.Contents.{Entry, Contents, keysIn, keyBelow, IsKey, Valid, rightMeasure}
 use Rattle.table.specs.Table.{fresh, entryIn, heldEntries, contentsOf}
 use Rattle.table.proofs.Entries.{entryAt, found-right, entries-by-keys, sorted-entries}
-use Rattle.table.proofs.Words.{slotKeys, placedKeys, fresh-order, fresh-keys, fresh-measure}
+use Rattle.table.proofs.Words.{slotKeys, placedKeys, fresh-order, fresh-salt, fresh-keys, fresh-measure}
 use Rattle.table.proofs.Held.{held-keys-permute}
 
 module _ (many : ℕ) (c : Contents) (right : All (λ e. rightMeasure e ≡ true) (c .entries)) where
@@ -46,7 +46,7 @@ entries-of-fresh : (many : ℕ) (c : Contents) → 1 ≤ many → Valid many c �
 entries-of-fresh many c some valid =
     let apart = all-map IsKey (λ k. k ≢ 0) (λ k h e. omega arith) (keysIn c) (valid .keys-right) in
     let shown : List·Permᴰ (heldEntries many (fresh many c)) (map (entryAt (c .entries)) (keysIn c)) =
-    rw (held-of-fresh many c (valid .measures-right)) (Permᴰ·map (entryAt (c .entries)) (held-keys-permute many (keysIn c) some (valid .keys-fit) apart))
+    rw (held-of-fresh many c (valid .measures-right)) (Permᴰ·map (entryAt (c .entries)) (held-keys-permute many (c .salt) (keysIn c) some (valid .keys-fit) apart))
     in
     sorted-entries (c .entries) (heldEntries many (fresh many c))
     (Permᴰ·symm (subst (List·Permᴰ (heldEntries many (fresh many c))) (entries-by-keys (c .entries) (valid .keys-rise)) shown)) (valid .keys-rise)
@@ -54,7 +54,7 @@ entries-of-fresh many c some valid =
 pub contents-of-fresh : (many : ℕ) (c : Contents) → 1 ≤ many → Valid many c → contentsOf many (fresh many c) ≡ c
 unfolding contentsOf
 contents-of-fresh many c some valid =
-    λ i. record { order = fresh-order many c i; entries = entries-of-fresh many c some valid i }
+    λ i. record { order = fresh-order many c i; salt = fresh-salt many c i; entries = entries-of-fresh many c some valid i }
 
 pub fresh-unique : (many : ℕ) (c d : Contents) → 1 ≤ many → Valid many c → Valid many d → fresh many c ≡ fresh many d → c ≡ d
 fresh-unique many c d some right-c right-d e =

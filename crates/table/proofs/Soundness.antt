@@ -14,8 +14,8 @@ use Rattle.lists.proofs.Membership.{same-says, same-when}
 use Rattle.lists.proofs.Rising.{rises-says, rises-when}
 use Rattle.lists.proofs.Sorted.{sorted-all, sorted-length}
 use Rattle.lists.proofs.UpFrom.{upFrom-length}
-use Rattle.table.specs.Layout.{mostSlots, keyField, tableWords, slotStart, keyIn}
-use Rattle.table.specs.Contents.{Contents, entryKeys, keysIn, tableOrder, IsKey, Valid, rightMeasure}
+use Rattle.table.specs.Layout.{mostSlots, saltWord, keyField, tableWords, slotStart, keyIn}
+use Rattle.table.specs.Contents.{Contents, entryKeys, keysIn, tableOrder, IsKey, IsSalt, Valid, rightMeasure}
 use Rattle.table.specs.Table.{fresh, Sound, entryIn, heldEntries, contentsOf}
 use Rattle.table.specs.Sound.{soundWith}
 use Rattle.table.proofs.Entries.{sorted-keys}
@@ -74,6 +74,10 @@ module _ (many : ℕ) (words : List ℕ) where
   pub shown-nonzero : All (λ k. 1 ≤ k) (keysIn (contentsOf many words))
   shown-nonzero = shown-all (λ k. 1 ≤ k) held-nonzero
 
+  shown-salt : WordSized words → IsSalt (contentsOf many words .salt)
+  unfolding contentsOf
+  shown-salt sized = sized saltWord
+
   pub shown-keys : WordSized words → All IsKey (keysIn (contentsOf many words))
   shown-keys sized = shown-all IsKey (held-keys sized)
 
@@ -107,6 +111,7 @@ module _ (many : ℕ) (words : List ℕ) (passed : soundWith many words ≡ true
   sound-valid bounded =
       record {
         order-right = sound-order;
+        salt-right = shown-salt many words bounded;
         keys-right = shown-keys many words bounded;
         keys-rise = sound-rises;
         keys-fit = shown-fit many words;

@@ -15,12 +15,11 @@ use Rattle.lists.proofs.Tests.{by-test}
 use Rattle.lists.proofs.UpFrom.{mapped-upFrom-all}
 use Rattle.measure.specs.Measure.{isMeasure, storedCorrection, measureFrom}
 use Rattle.measure.proofs.Stored.{read-back}
-use Rattle.priority.specs.Priority.{priorityOf}
 use Rattle.treap.specs.Treap.{top, outranks}
 use Rattle.treap.specs.Slots.{slotsOf}
 use Rattle.table_slots.proofs.Placing.{placeAll-length}
-use Rattle.table.specs.Layout.{slotWords, orderWord, sizeWord, rootWord, keyField, lengthField, correctionField, tableWords, slotStart, keyIn}
-use Rattle.table.specs.Contents.{Contents, keysIn, measureIn}
+use Rattle.table.specs.Layout.{slotWords, orderWord, sizeWord, rootWord, saltWord, keyField, lengthField, correctionField, tableWords, slotStart, keyIn}
+use Rattle.table.specs.Contents.{Contents, keysIn, priorityIn, measureIn}
 use Rattle.table.specs.Table.{homeIn, header, slotOf, fresh, entryIn}
 
 -- ---- the keys in the slots
@@ -61,12 +60,12 @@ slot-in-slots c (k ∷ ks) (suc s) h =
 -- ---- the fresh table
 -- The keys in the slots of the fresh table, in the slots' order; zero for an empty slot.
 abbrev pub placedKeys : ℕ → Contents → List ℕ
-placedKeys many c = slotsOf priorityOf (homeIn many) many (keysIn c)
+placedKeys many c = slotsOf (priorityIn c) (homeIn many (c .salt)) many (keysIn c)
 
 pub placed-length : (many : ℕ) (c : Contents) → length (placedKeys many c) ≡ many
 unfolding slotsOf
 placed-length many c =
-    placeAll-length (homeIn many) (replicate many 0) (sortBy (outranks priorityOf) (keysIn c)) ∙ length-replicate many 0
+    placeAll-length (homeIn many (c .salt)) (replicate many 0) (sortBy (outranks (priorityIn c)) (keysIn c)) ∙ length-replicate many 0
 
 pub fresh-length : (many : ℕ) (c : Contents) → length (fresh many c) ≡ tableWords many
 unfolding fresh header
@@ -83,9 +82,13 @@ module _ (many : ℕ) (c : Contents) where
   unfolding fresh header
   fresh-size = refl
 
-  pub fresh-root : getD (fresh many c) rootWord 0 ≡ top priorityOf (keysIn c)
+  pub fresh-root : getD (fresh many c) rootWord 0 ≡ top (priorityIn c) (keysIn c)
   unfolding fresh header
   fresh-root = refl
+
+  pub fresh-salt : getD (fresh many c) saltWord 0 ≡ c .salt
+  unfolding fresh header
+  fresh-salt = refl
 
   pub slot-in-fresh : (s : ℕ) → s < many → take slotWords (drop (slotStart s) (fresh many c)) ≡ slotOf c (getD (placedKeys many c) s 0)
   unfolding fresh header

@@ -1,4 +1,5 @@
--- What a table holds, whatever its number of slots: document 01's "order and set", the set being "one of keys with their measures" (02, N4).
+-- What a table holds, whatever its number of slots: document 01's "order and set", the set being "one of keys with their measures" (02, N4),
+-- and "a 64-bit salt" (02, N9).
 -- Assumes nothing.
 use mathlib.Core.Bool.{Bool, true, cond, _&&_}
 use mathlib.Core.List.{List, [], _∷_, map}
@@ -8,6 +9,7 @@ use lib.Dec.{eqb, ltb}
 use lib.ListN.{length}
 use Rattle.lists.specs.Lists.{lies, nonzero, risesB, every, All, Rising}
 use Rattle.measure.specs.Measure.{Measure, unmeasured, isMeasure}
+use Rattle.priority.specs.Priority.{priorityWith}
 use Rattle.table.specs.Layout.{leastOrder, greatestOrder}
 
 -- A key and its measure.
@@ -15,9 +17,10 @@ pub record Entry : Type 0 where
   pub key : ℕ
   pub measure : Measure
 
--- An order and a set of keys with their measures; the set is the list of its entries, by rising key.
+-- An order, a salt and a set of keys with their measures; the set is the list of its entries, by rising key.
 pub record Contents : Type 0 where
   pub order : ℕ
+  pub salt : ℕ
   pub entries : List Entry
 
 -- The keys of entries, and those of a set.
@@ -26,6 +29,10 @@ entryKeys entries = map (λ e. e .key) entries
 
 abbrev pub keysIn : Contents → List ℕ
 keysIn c = entryKeys (c .entries)
+
+-- The priorities of keys under its salt.
+abbrev pub priorityIn : Contents → ℕ → ℕ
+priorityIn c = priorityWith (c .salt)
 
 -- The measure of a key among entries; "not measured" where it is not among them.
 abbrev pub measureIn : List Entry → ℕ → Measure
@@ -58,13 +65,18 @@ newOrder α = tableOrder α
 abbrev pub IsKey : ℕ → Type 0
 IsKey k = (1 ≤ k) × (k < 2 ^ 64)
 
+-- "A 64-bit salt": any number of 64 bits.
+abbrev pub IsSalt : ℕ → Type 0
+IsSalt salt = salt < 2 ^ 64
+
 -- "Build takes a strictly rising list of non-zero keys, perhaps empty."
 unfoldable pub risingKeys : List ℕ → Bool
 risingKeys list = risesB list && every nonzero list
 
--- An order that a table may have, and a set of at most so many keys, their measures within the rules.
+-- An order that a table may have, a salt, and a set of at most so many keys, their measures within the rules.
 pub record Valid (most : ℕ) (c : Contents) : Type 0 where
   pub order-right : tableOrder (c .order) ≡ true
+  pub salt-right : IsSalt (c .salt)
   pub keys-right : All IsKey (keysIn c)
   pub keys-rise : Rising (keysIn c)
   pub keys-fit : length (keysIn c) ≤ most

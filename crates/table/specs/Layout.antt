@@ -15,9 +15,9 @@ abbrev pub greatestOrder : ℕ
 greatestOrder = 255
 
 -- "Words 0 to 2: α, n, root key. Then each slot: key, left, right, leader, rank, count" (01); "slots gain these two words after count" (02,
--- N4): the length and the stored correction.
+-- N4): the length and the stored correction; "a 64-bit salt .. in a new word after the root key" (02, N9).
 abbrev pub headerWords : ℕ
-headerWords = 3
+headerWords = 4
 
 abbrev pub slotWords : ℕ
 slotWords = 8
@@ -30,6 +30,9 @@ sizeWord = 1
 
 abbrev pub rootWord : ℕ
 rootWord = 2
+
+abbrev pub saltWord : ℕ
+saltWord = 3
 
 -- A slot's words from its first on.
 abbrev pub keyField : ℕ
@@ -56,7 +59,7 @@ lengthField = 6
 abbrev pub correctionField : ℕ
 correctionField = 7
 
--- "The table is 3 + 8·M words" (02, N4).
+-- "Its length is 4 + 8·M" (02, N9).
 abbrev pub tableWords : ℕ → ℕ
 tableWords many = headerWords + slotWords * many
 

@@ -15,12 +15,12 @@ entryTags entries = map (λ e. tagOf (e .measure)) entries
 abbrev pub tagsIn : Contents → List ℕ
 tagsIn c = entryTags (c .entries)
 
--- Keys with the measures of the tags beside them, and the set of these.
+-- Keys with the measures of the tags beside them, and the set of these with an order and a salt.
 abbrev pub entriesTagged : List ℕ → List ℕ → List Entry
 entriesTagged keys tags = entriesWith keys (map measureAt tags)
 
-abbrev pub tagged : ℕ → List ℕ → List ℕ → Contents
-tagged order keys tags = record { order = order; entries = entriesTagged keys tags }
+abbrev pub tagged : ℕ → ℕ → List ℕ → List ℕ → Contents
+tagged order salt keys tags = record { order = order; salt = salt; entries = entriesTagged keys tags }
 
 -- Tags that can stand beside keys: as many, each of a measure within the rules.
 pub record Beside (keys tags : List ℕ) : Type 0 where

@@ -1,7 +1,7 @@
 // The numbers of a table's layout, for the crates whose code reads or writes its words; `specs/Layout` has the same by name.
 
 // The words before the first slot.
-pub const HEADER_WORDS: usize = 3;
+pub const HEADER_WORDS: usize = 4;
 
 // The words of a slot.
 pub const SLOT_WORDS: usize = 8;
@@ -23,12 +23,14 @@ pub const LENGTH_FIELD: usize = 6;
 
 pub const CORRECTION_FIELD: usize = 7;
 
-// Where the order, the number of keys and the root stand.
+// Where the order, the number of keys, the root and the salt stand.
 pub const ORDER_WORD: usize = 0;
 
 pub const SIZE_WORD: usize = 1;
 
 pub const ROOT_WORD: usize = 2;
+
+pub const SALT_WORD: usize = 3;
 
 // The most slots that a table has.
 pub const MOST_SLOTS: usize = 4096;

@@ -7,10 +7,9 @@ use native.Mathlib.Omega.{arith}
 use lib.Dec.{eqb}
 use borrow.Author.Tests.{eq-eqb, ne-eqb, lt-ltb, le-ltb}
 use Rattle.lists.proofs.Tests.{nonzero-when, zero-fails}
-use Rattle.priority.specs.Priority.{priorityOf}
 use Rattle.treap_structure.proofs.Blocks.{blockLevel}
 use Rattle.treap_structure.proofs.Entrances.{ofLevel}
-use Rattle.table.specs.Contents.{Contents, keysIn}
+use Rattle.table.specs.Contents.{Contents, keysIn, priorityIn}
 use Rattle.table_entries.specs.Steps.{nextKey}
 use Rattle.table_descend.specs.Entering.{newBlock}
 
@@ -27,8 +26,8 @@ module _ (c : Contents) (at low other level below : ℕ) where
     not-along h = rw (ne-eqb below level differs, le-ltb low other h)
 
     -- it did, and went on to a key, or ended
-    module _ (above : low < other) (there : ℕ) (link : there ≡ nextKey (keysIn c) at other) where
-      pub same-next : (next : ℕ) → there ≡ next → ofLevel (c .order) priorityOf (keysIn c) below next ≡ true → false ≡ newBlock c at low other level below
+    module _ (above : low < other) (there : ℕ) (link : there ≡ nextKey c at other) where
+      pub same-next : (next : ℕ) → there ≡ next → ofLevel (c .order) (priorityIn c) (keysIn c) below next ≡ true → false ≡ newBlock c at low other level below
       unfolding newBlock
       same-next next e onto = rw (ne-eqb below level differs, lt-ltb low other above, sym link, e, onto)
 
@@ -36,6 +35,6 @@ module _ (c : Contents) (at low other level below : ℕ) where
       unfolding newBlock ofLevel
       no-next e = rw (ne-eqb below level differs, lt-ltb low other above, sym link, zero-fails there e)
 
-      pub by-level : there ≢ 0 → (its : ℕ) → its ≡ blockLevel (c .order) priorityOf (keysIn c) there → not (eqb its below) ≡ newBlock c at low other level below
+      pub by-level : there ≢ 0 → (its : ℕ) → its ≡ blockLevel (c .order) (priorityIn c) (keysIn c) there → not (eqb its below) ≡ newBlock c at low other level below
       unfolding newBlock ofLevel
       by-level d its e = rw (ne-eqb below level differs, lt-ltb low other above, sym link, nonzero-when there (omega arith), sym e)

@@ -14,7 +14,6 @@ use Rattle.lists.proofs.Tests.{by-test, same-test, or-true-left, nonzero-when, 
 use Rattle.lists.proofs.Keep.{all-map}
 use Rattle.lists.proofs.Membership.{all-member}
 use Rattle.lists.proofs.Changes.{new, changes, changes-same, Counted, counted-on, counted-most}
-use Rattle.priority.specs.Priority.{priorityOf}
 use Rattle.treap.specs.Treap.{Tree, keys, rootKey, subtree, path, top, treap}
 use Rattle.treap.specs.Treap.Tree.{leaf}
 use Rattle.treap.specs.Levels.{leader}
@@ -27,7 +26,7 @@ use Rattle.treap_structure.proofs.Children.{child, positive-in-tree, has-root, 
 use Rattle.treap_structure.proofs.Entrances.{ofLevel}
 use Rattle.treap_structure.proofs.MetBetween.{root-met}
 use Rattle.treap_structure.proofs.NewBlocks.{new-blocks-change}
-use Rattle.table.specs.Contents.{Contents, IsKey, Valid, keysIn}
+use Rattle.table.specs.Contents.{Contents, IsKey, Valid, keysIn, priorityIn}
 use Rattle.table.proofs.Orders.{order-wide}
 use Rattle.table_entries.specs.Steps.{nextKey}
 use Rattle.table_descend.specs.Lookup.{standingOf, earlier, newlyMet, lookedUpAfter}
@@ -38,28 +37,28 @@ use Rattle.table_descend.proofs.Earlier.{none-earlier, last-earlier, me
 
 -- The subtree in which the search goes on from a key.
 abbrev pub rest : Contents → ℕ → Tree
-rest c at = subtree at (treap priorityOf (keysIn c))
+rest c at = subtree at (treap (priorityIn c) (keysIn c))
 
 -- None of the earlier lookups met a block.
 abbrev unmet : Contents → ℕ → ℕ → Block → Bool
-unmet c last before b = not (some (λ k. meets (c .order) priorityOf (keysIn c) k b) (earlier last before))
+unmet c last before b = not (some (λ k. meets (c .order) (priorityIn c) (keysIn c) k b) (earlier last before))
 
 -- Nor the block that holds a key.
 abbrev pub passes : Contents → ℕ → ℕ → ℕ → Bool
-passes c last before x = unmet c last before (blockOf (c .order) priorityOf (keysIn c) x)
+passes c last before x = unmet c last before (blockOf (c .order) (priorityIn c) (keysIn c) x)
 
 -- The blocks still to be counted, on from a key of this level.
 abbrev pub ahead : Contents → ℕ → ℕ → ℕ → List ℕ → ℕ
-ahead c last before level xs = changes (blockLevel (c .order) priorityOf (keysIn c)) (passes c last before) level xs
+ahead c last before level xs = changes (blockLevel (c .order) (priorityIn c) (keysIn c)) (passes c last before) level xs
 
 -- Before the key `at`, of a block of this level, is compared with the one sought, with so many blocks counted.
 pub record Searching (c : Contents) (key last before at level low met : ℕ) : Type 0 where
   pub held-here : member at (keysIn c) ≡ true
-  pub level-is : level ≡ blockLevel (c .order) priorityOf (keysIn c) at
+  pub level-is : level ≡ blockLevel (c .order) (priorityIn c) (keysIn c) at
   -- the key is held when it is in what is left
   pub held : member key (keys (rest c at)) ≡ member key (keysIn c)
   -- the searches for lesser keys that come by `at` are those for keys above `low`
-  pub along : (q : ℕ) → 1 ≤ q → q ≤ pred key → member at (path q (treap priorityOf (keysIn c))) ≡ ltb low q
+  pub along : (q : ℕ) → 1 ≤ q → q ≤ pred key → member at (path q (treap (priorityIn c) (keysIn c))) ≡ ltb low q
   -- every block that is entered from here on and was not met before counts
   pub counted : met + ahead c last before level (path key (rest c at)) ≡ newlyMet c (earlier last before) key
   -- no more blocks than keys
@@ -70,13 +69,13 @@ module _ (many : ℕ) (c : Contents) (valid : Valid many c) where
   α = c .order
 
   abbrev p : ℕ → ℕ
-  p = priorityOf
+  p = priorityIn c
 
   abbrev ks : List ℕ
   ks = keysIn c
 
   abbrev t : Tree
-  t = treap priorityOf (keysIn c)
+  t = treap (priorityIn c) (keysIn c)
 
   wide : 2 ≤ c .order
   wide = order-wide (c .order) (valid .order-right)
@@ -88,9 +87,9 @@ module _ (many : ℕ) (c : Contents) (valid : Valid many c) where
   positive = all-map IsKey (λ k. 1 ≤ k) (λ k h. h .0) ks (valid .keys-right)
 
   -- a link of a key is a key, where it is not zero
-  pub link-held : (at : ℕ) → member at ks ≡ true → (q there : ℕ) → there ≡ nextKey ks at q → there ≢ 0 → member there ks ≡ true
+  pub link-held : (at : ℕ) → member at ks ≡ true → (q there : ℕ) → there ≡ nextKey c at q → there ≢ 0 → member there ks ≡ true
   link-held at m q there e d =
-      let here : there ≡ child p ks at q = e ∙ next-is-side ks at q (has-root α p wide ks rising positive at m) in
+      let here : there ≡ child p ks at q = e ∙ next-is-side c at q (has-root α p wide ks rising positive at m) in
       ap (λ (k : ℕ). member k ks) here ∙ child-key α p wide ks rising positive at m q (λ z. d (here ∙ z))
 
   -- ---- the start
@@ -202,11 +201,11 @@ module _ (many : ℕ) (c : Contents) (valid : Valid many c) where
         held-on : member key (keys (side key (rest c at))) ≡ member key ks
         held-on = member-on p (rest c at) key (good-subtree p at t (treap-good p ks rising)) some-left not-root ∙ now .held
 
-        link-is : (q : ℕ) → nextKey ks at q ≡ child p ks at q
-        link-is q = next-is-side ks at q root-is
+        link-is : (q : ℕ) → nextKey c at q ≡ child p ks at q
+        link-is q = next-is-side c at q root-is
 
         -- no key left
-        pub ends : nextKey ks at key ≡ 0 → Absent met ≡ lookedUpAfter c (earlier last before) key
+        pub ends : nextKey c at key ≡ 0 → Absent met ≡ lookedUpAfter c (earlier last before) key
         unfolding lookedUpAfter
         ends e =
             let none : side key (rest c at) ≡ leaf =
@@ -218,7 +217,7 @@ module _ (many : ℕ) (c : Contents) (valid : Valid many c) where
             rw (sym held-on ∙ ap (λ (z : Tree). member key (keys z)) none, all)
 
         -- ---- the key that is compared next
-        module _ (next : ℕ) (link : next ≡ nextKey ks at key) (more-to : next ≢ 0) where
+        module _ (next : ℕ) (link : next ≡ nextKey c at key) (more-to : next ≢ 0) where
           is-child : next ≡ child p ks at key
           is-child = link ∙ link-is key
 

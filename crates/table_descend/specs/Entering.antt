@@ -2,9 +2,8 @@
 use mathlib.Core.Bool.{Bool, cond, not, _&&_}
 use Prim.Native.Nat.{ℕ}
 use lib.Dec.{eqb, ltb}
-use Rattle.priority.specs.Priority.{priorityOf}
 use Rattle.treap_structure.proofs.Entrances.{ofLevel}
-use Rattle.table.specs.Contents.{Contents, keysIn}
+use Rattle.table.specs.Contents.{Contents, keysIn, priorityIn}
 use Rattle.table_entries.specs.Steps.{nextKey}
 
 -- The block that holds the root is new to the first lookup alone.
@@ -20,7 +19,7 @@ otherThan at last before = cond (eqb last at) before last
 unfoldable pub newBlock : Contents → ℕ → ℕ → ℕ → ℕ → ℕ → Bool
 newBlock c at low other level below =
     not (eqb below level)
-    && not (ltb low other && ofLevel (c .order) priorityOf (keysIn c) below (nextKey (keysIn c) at other))
+    && not (ltb low other && ofLevel (c .order) (priorityIn c) (keysIn c) below (nextKey c at other))
 
 -- The last key at which the way down went right.
 unfoldable pub lowAfter : ℕ → ℕ → ℕ → ℕ

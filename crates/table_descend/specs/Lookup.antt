@@ -4,10 +4,9 @@ use mathlib.Core.List.{List, [], _∷_}
 use Prim.Native.Nat.{ℕ}
 use lib.ListN.{length}
 use Rattle.lists.specs.Lists.{nonzero, keep, some, member}
-use Rattle.priority.specs.Priority.{priorityOf}
 use Rattle.treap.specs.Levels.{rank, count, leader}
 use Rattle.treap.specs.Blocks.{meets, blocksMet, blocks}
-use Rattle.table.specs.Contents.{Contents, keysIn, measureIn}
+use Rattle.table.specs.Contents.{Contents, keysIn, priorityIn, measureIn}
 use Rattle.table_descend.specs.declared.Standing.{Standing}
 use Rattle.table_descend.specs.declared.Looked.{Looked}
 use Rattle.table_descend.specs.declared.Looked.the-variants.{Held, Absent}
@@ -16,9 +15,9 @@ use Rattle.table_descend.specs.declared.Looked.the-variants.{Held, Absen
 unfoldable pub standingOf : Contents → ℕ → Standing
 standingOf c key =
     record {
-      rank = rank (c .order) priorityOf (keysIn c) key;
-      count = count (c .order) priorityOf (keysIn c) key;
-      leader = leader (c .order) priorityOf (keysIn c) key;
+      rank = rank (c .order) (priorityIn c) (keysIn c) key;
+      count = count (c .order) (priorityIn c) (keysIn c) key;
+      leader = leader (c .order) (priorityIn c) (keysIn c) key;
       length = measureIn (c .entries) key .length;
       correction = measureIn (c .entries) key .correction;
     }
@@ -28,8 +27,8 @@ standingOf c key =
 unfoldable pub lookedUp : Contents → ℕ → Looked
 lookedUp c key =
     cond (member key (keysIn c))
-    (Held (standingOf c key) (blocksMet (c .order) priorityOf (keysIn c) key))
-    (Absent (blocksMet (c .order) priorityOf (keysIn c) key))
+    (Held (standingOf c key) (blocksMet (c .order) (priorityIn c) (keysIn c) key))
+    (Absent (blocksMet (c .order) (priorityIn c) (keysIn c) key))
 
 -- ---- lookups one after the other, for rising keys
 -- The keys of the last lookup and of the one before it, where there are such: zero is no key.
@@ -40,8 +39,8 @@ earlier last before = keep nonzero (last ∷ before ∷ [])
 unfoldable pub newlyMet : Contents → List ℕ → ℕ → ℕ
 newlyMet c keys key =
     length
-    (keep (λ b. meets (c .order) priorityOf (keysIn c) key b && not (some (λ k. meets (c .order) priorityOf (keysIn c) k b) keys))
-    (blocks (c .order) priorityOf (keysIn c)))
+    (keep (λ b. meets (c .order) (priorityIn c) (keysIn c) key b && not (some (λ k. meets (c .order) (priorityIn c) (keysIn c) k b) keys))
+    (blocks (c .order) (priorityIn c) (keysIn c)))
 
 -- What a lookup finds after those of these keys, with the blocks that they did not meet.
 unfoldable pub lookedUpAfter : Contents → List ℕ → ℕ → Looked

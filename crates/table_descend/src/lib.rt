@@ -4,7 +4,7 @@ ghost use mathlib.Core.Path.{_≡_};
 ghost use Prim.Native.Nat.{pred, _<_, _≤_};
 ghost use lib.ListN.{length};
 ghost use Rattle.lists.specs.Lists.{member};
-ghost use Rattle.priority.specs.Priority.{HoldsConstants, priorityOf};
+ghost use Rattle.priority.specs.Priority.{HoldsConstants};
 ghost use Rattle.treap_structure.proofs.Entrances.{ofLevel};
 ghost use Rattle.table.specs.Layout.{mostSlots, tableWords};
 ghost use Rattle.table.specs.Table.{contentsOf};
@@ -12,7 +12,7 @@ ghost use Rattle.table.specs.Sound.{soundWith};
 ghost use Rattle.table_descend.specs.Lookup.{standingOf, lookedUp, earlier, lookedUpAfter};
 ghost use Rattle.table_descend.specs.Entering.{firstBlock, otherThan, lowAfter, newBlock};
 ghost use Rattle.table_find.specs.Find.{OnlyAt};
-ghost use Rattle.table.specs.Contents.{keysIn};
+ghost use Rattle.table.specs.Contents.{keysIn, priorityIn};
 ghost use Rattle.table_entries.specs.Steps.{InSlot};
 use priority::CONSTANT_COUNT;
 use table::CORRECTION_FIELD;
@@ -43,7 +43,7 @@ fn slot_reached(table: &[u64], many: usize, key: u64, constants: &[u64; CONSTANT
     requires { ⌜ (0 < many) × (many ≤ mostSlots) × (length (now table) ≡ tableWords many) × (soundWith many (now table) ≡ true) × (member key (keysIn (contentsOf many (now table))) ≡ true) × HoldsConstants (now constants) ⌝ }
     ensures { λ r. ⌜ OnlyAt many (now (table .entry)) key r ⌝ }
 {
-    let priority = priority::priority_from(constants, key);
+    let priority = table_entries::priority_of(table, many, key, constants);
     table_entries::slot_of(table, many, key, priority)
 }
 
@@ -108,7 +108,7 @@ fn is_new_block(
     constants: &[u64; CONSTANT_COUNT],
 ) -> bool
     requires { ⌜ (0 < many) × InSlot many (now table) at slot × (member at (keysIn (contentsOf many (now table))) ≡ true) × HoldsConstants (now constants) ⌝ }
-    requires { ⌜ ofLevel (contentsOf many (now table) .order) priorityOf (keysIn (contentsOf many (now table))) below next ≡ true ⌝ }
+    requires { ⌜ ofLevel (contentsOf many (now table) .order) (priorityIn (contentsOf many (now table))) (keysIn (contentsOf many (now table))) below next ≡ true ⌝ }
     ensures { λ r. ⌜ r ≡ newBlock (contentsOf many (now (table .entry))) at low other level below ⌝ }
 {
     if below == level {

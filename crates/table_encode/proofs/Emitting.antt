@@ -62,9 +62,10 @@ module _ (keys tags : List ℕ) (c : Columns) (slots : List ℕ) (start : List �
       ∙ ap (λ (xs : List ℕ). take headerWords start ++ (all-words ++ xs)) (drop-of-length-le start {i = headerWords + length all-words} (omega (arith, slots-length keys tags c slots)))
       ∙ ap (λ (xs : List ℕ). take headerWords start ++ xs) (append-nil all-words)
 
--- the header's three stores
-pub header-stores : (words : List ℕ) (a b c : ℕ) → 3 ≤ length words → take 3 (set (set (set words 0 a) 1 b) 2 c) ≡ a ∷ b ∷ c ∷ []
-header-stores [] a b c h = absurd (omega arith)
-header-stores (x ∷ []) a b c h = absurd (omega arith)
-header-stores (x ∷ y ∷ []) a b c h = absurd (omega arith)
-header-stores (x ∷ y ∷ z ∷ words) a b c h = refl
+-- the header's four stores
+pub header-stores : (words : List ℕ) (a b c d : ℕ) → headerWords ≤ length words → take headerWords (set (set (set (set words 0 a) 1 b) 2 c) 3 d) ≡ a ∷ b ∷ c ∷ d ∷ []
+header-stores [] a b c d h = absurd (omega arith)
+header-stores (x ∷ []) a b c d h = absurd (omega arith)
+header-stores (x ∷ y ∷ []) a b c d h = absurd (omega arith)
+header-stores (x ∷ y ∷ z ∷ []) a b c d h = absurd (omega arith)
+header-stores (x ∷ y ∷ z ∷ w ∷ words) a b c d h = refl

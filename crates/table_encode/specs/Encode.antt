@@ -40,8 +40,8 @@ abbrev pub wordsIn : Slot → List ℕ
 wordsIn s = s .key ∷ s .left ∷ s .right ∷ s .leader ∷ s .rank ∷ s .count ∷ s .length ∷ s .correction ∷ []
 
 -- The words of a whole table.
-unfoldable pub wordsOf : ℕ → List ℕ → List ℕ → ℕ → Columns → List ℕ → List ℕ
-wordsOf order keys tags root c slots = (order ∷ length keys ∷ keyAt keys root ∷ []) ++ flatMap (slotAt keys tags c) slots
+unfoldable pub wordsOf : ℕ → ℕ → List ℕ → List ℕ → ℕ → Columns → List ℕ → List ℕ
+wordsOf order salt keys tags root c slots = (order ∷ length keys ∷ keyAt keys root ∷ salt ∷ []) ++ flatMap (slotAt keys tags c) slots
 
 -- Columns with an entry for each key, whose links and leaders are positions of keys or zero.
 pub record Linked (keys : List ℕ) (c : Columns) : Type 0 where

@@ -16,6 +16,7 @@ use table::ORDER_WORD;
 use table::RANK_FIELD;
 use table::RIGHT_FIELD;
 use table::ROOT_WORD;
+use table::SALT_WORD;
 use table::SIZE_WORD;
 use table::SLOT_WORDS;
 
@@ -114,15 +115,17 @@ pub fn emit(
     count: &[u16],
     slots: &[u16],
     table: &mut [u64],
+    salt: u64,
 )
     requires { ⌜ Linked (now keys) (record { left = now left; right = now right; leader = now leader; rank = now rank; count = now count }) ⌝ }
     requires { ⌜ (root ≤ length (now keys)) × All (λ i. i ≤ length (now keys)) (now slots) × (length (now keys) ≤ length (now tags)) ⌝ }
     requires { ⌜ length (now table) ≡ tableWords (length (now slots)) ⌝ }
-    ensures { λ _. ⌜ now (table .exit) ≡ wordsOf order (now (keys .entry)) (now (tags .entry)) root (record { left = now (left .entry); right = now (right .entry); leader = now (leader .entry); rank = now (rank .entry); count = now (count .entry) }) (now (slots .entry)) ⌝ }
+    ensures { λ _. ⌜ now (table .exit) ≡ wordsOf order salt (now (keys .entry)) (now (tags .entry)) root (record { left = now (left .entry); right = now (right .entry); leader = now (leader .entry); rank = now (rank .entry); count = now (count .entry) }) (now (slots .entry)) ⌝ }
 {
     table[ORDER_WORD] = order;
     table[SIZE_WORD] = keys.len() as u64;
     table[ROOT_WORD] = key_at(keys, root);
+    table[SALT_WORD] = salt;
     for s in 0..slots.len() {
         let slot = slot_at(
             keys,
@@ -180,11 +183,12 @@ pub fn matches(
     count: &[u16],
     slots: &[u16],
     table: &[u64],
+    salt: u64,
 ) -> bool
     requires { ⌜ Linked (now keys) (record { left = now left; right = now right; leader = now leader; rank = now rank; count = now count }) ⌝ }
     requires { ⌜ (root ≤ length (now keys)) × All (λ i. i ≤ length (now keys)) (now slots) × (length (now keys) ≤ length (now tags)) ⌝ }
     requires { ⌜ length (now table) ≡ tableWords (length (now slots)) ⌝ }
-    ensures { λ r. ⌜ r ≡ same (now (table .entry)) (wordsOf order (now (keys .entry)) (now (tags .entry)) root (record { left = now (left .entry); right = now (right .entry); leader = now (leader .entry); rank = now (rank .entry); count = now (count .entry) }) (now (slots .entry))) ⌝ }
+    ensures { λ r. ⌜ r ≡ same (now (table .entry)) (wordsOf order salt (now (keys .entry)) (now (tags .entry)) root (record { left = now (left .entry); right = now (right .entry); leader = now (leader .entry); rank = now (rank .entry); count = now (count .entry) }) (now (slots .entry))) ⌝ }
 {
     if table[ORDER_WORD] != order {
         return false;
@@ -193,6 +197,9 @@ pub fn matches(
         return false;
     }
     if table[ROOT_WORD] != key_at(keys, root) {
+        return false;
+    }
+    if table[SALT_WORD] != salt {
         return false;
     }
     for s in 0..slots.len() {

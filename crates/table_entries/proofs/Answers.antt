@@ -11,9 +11,8 @@ use borrow.Author.Tests.{eq-eqb, ne-eqb}
 use Rattle.lists.specs.Lists.{member}
 use Rattle.lists.proofs.Tests.{by-test}
 use Rattle.lists.proofs.Membership.{all-member}
-use Rattle.priority.specs.Priority.{priorityOf}
 use Rattle.table.specs.Layout.{mostSlots, tableWords, keyIn}
-use Rattle.table.specs.Contents.{IsKey, keysIn}
+use Rattle.table.specs.Contents.{IsKey, keysIn, priorityIn}
 use Rattle.table.specs.Table.{Sound, contentsOf}
 use Rattle.table.specs.Sound.{soundWith}
 use Rattle.table.proofs.Soundness.{WordSized, sound-exactly, sound-valid}
@@ -42,7 +41,7 @@ module _ (many : ℕ) (words : List ℕ) (some : 0 < many) (most : many ≤ most
         exactly = sound-exactly many words passed;
       }
 
-  pub search-says : (k priority : ℕ) → priority ≡ priorityOf k → (answer : Found) → answer ≡ searched many words k priority
+  pub search-says : (k priority : ℕ) → priority ≡ priorityIn (contentsOf many words) k → (answer : Found) → answer ≡ searched many words k priority
       → Says many words k answer
   search-says k priority own answer found =
       record {

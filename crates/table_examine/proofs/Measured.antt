@@ -15,7 +15,7 @@ use Rattle.lists.proofs.UpFrom.{upFrom-within}
 use Rattle.measure.specs.Measure.{isMeasure}
 use Rattle.measure.specs.Tag.{isStored}
 use Rattle.measure.proofs.Stored.{stored-measures, measure-stored, unmeasured-right}
-use Rattle.table.specs.Layout.{orderWord, lengthField, correctionField, slotStart}
+use Rattle.table.specs.Layout.{orderWord, saltWord, lengthField, correctionField, slotStart}
 use Rattle.table.specs.Contents.{Entry, Contents, measureIn, keyBelow, rightMeasure}
 use Rattle.table.specs.Table.{slotOf, fresh, entryIn, heldEntries, contentsOf}
 use Rattle.table.specs.Sound.{soundWith}
@@ -55,7 +55,7 @@ module _ (many : ℕ) (words : List ℕ) where
   stored-shown : allStored many words ≡ true → contentsRead many words ≡ contentsOf many words
   unfolding contentsRead contentsOf heldRead heldEntries allStored
   stored-shown h =
-      ap (λ (es : List Entry). record { order = getD words orderWord 0; entries = sortBy keyBelow (keep (λ e. nonzero (e .key)) es) })
+      ap (λ (es : List Entry). record { order = getD words orderWord 0; salt = getD words saltWord 0; entries = sortBy keyBelow (keep (λ e. nonzero (e .key)) es) })
       (map-same (entryRead words) (entryIn words) (upFrom 0 many)
       (all-map (λ s. storedAt words s ≡ true) (λ s. entryRead words s ≡ entryIn words s) (entry-shown words) (upFrom 0 many)
       (every-says (storedAt words) (upFrom 0 many) h)))

@@ -11,7 +11,7 @@ use Rattle.lists.proofs.Rising.{rises-says}
 use Rattle.lists.proofs.Start.{starts-with}
 use Rattle.lists.proofs.Tests.{same-test}
 use Rattle.lists.proofs.Membership.{same-when}
-use Rattle.table.specs.Layout.{mostSlots, leastOrder, greatestOrder, orderWord}
+use Rattle.table.specs.Layout.{mostSlots, leastOrder, greatestOrder, orderWord, saltWord}
 use Rattle.table.specs.Contents.{Entry, Contents, keysIn, tableOrder, rightMeasure}
 use Rattle.table.specs.Tags.{tagsIn, tagged}
 use Rattle.table.specs.Table.{fresh, contentsOf}
@@ -105,8 +105,8 @@ module _ (many : ℕ) (words : List ℕ) where
       (omega (arith, shown-fit many words))
 
   pub compared : (keys tags : List ℕ) → keys ≡ keysIn (contentsOf many words) → tags ≡ tagsIn (contentsRead many words)
-      → same words (fresh many (tagged (getD words orderWord 0) keys tags)) ≡ same words (fresh many (contentsRead many words))
+      → same words (fresh many (tagged (getD words orderWord 0) (getD words saltWord 0) keys tags)) ≡ same words (fresh many (contentsRead many words))
   unfolding contentsRead
   compared keys tags e f =
-      ap (λ (es : List Entry). same words (fresh many (record { order = getD words orderWord 0; entries = es })))
+      ap (λ (es : List Entry). same words (fresh many (record { order = getD words orderWord 0; salt = getD words saltWord 0; entries = es })))
       (tagged-is (contentsRead many words .entries) (read-right many words) (e ∙ sym (keys-shown many words)) f)

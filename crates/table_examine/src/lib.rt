@@ -1,5 +1,5 @@
 // Examining a table: its keys and the tags of their measures are read and sorted, and its words compared with those of its
-// order, keys and measures.
+// order, salt, keys and measures.
 ghost use mathlib.Core.Path.{_≡_};
 ghost use Prim.Native.Nat.{_<_, _≤_};
 ghost use lib.ListN.{length};
@@ -15,6 +15,7 @@ ghost use Rattle.table_decode.specs.Decode.{contentsRead};
 ghost use Rattle.table_examine.specs.Examine.{verdictOf};
 use priority::CONSTANT_COUNT;
 use table::ORDER_WORD;
+use table::SALT_WORD;
 
 // What examining a table finds: how many keys it holds, where it is sound.
 pub enum Verdict {
@@ -45,7 +46,7 @@ fn read_keys(
     n
 }
 
-// The verdict on a table that shows `n` keys, by whether its words are those of its order, keys and measures.
+// The verdict on a table that shows `n` keys, by whether its words are those of its order, salt, keys and measures.
 fn conclude(same: bool, n: usize) -> Verdict
     ensures { λ r. ⌜ r ≡ cond same (Verdict.Sound n) Verdict.Unsound ⌝ }
 {
@@ -80,6 +81,7 @@ fn examine_within(
     ensures { λ _. ⌜ (soundWith many (now (table .entry)) ≡ true → now (tags .exit) ≡ overwrite (now (tags .entry)) 0 (tagsIn (contentsOf many (now (table .entry))))) ⌝ }
 {
     let order = table[ORDER_WORD];
+    let salt = table[SALT_WORD];
     if !table_limits::is_order(order) {
         return Verdict::Unsound;
     }
@@ -100,6 +102,7 @@ fn examine_within(
         leader,
         slots,
         constants,
+        salt,
     );
     let same = table_encode::matches(
         order,
@@ -113,6 +116,7 @@ fn examine_within(
         count,
         &slots[..many],
         table,
+        salt,
     );
     conclude(same, n)
 }

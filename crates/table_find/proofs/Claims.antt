@@ -8,7 +8,7 @@ use native.Mathlib.Nat.{mod-lt}
 use native.Mathlib.Omega.{arith}
 use Rattle.lists.specs.Lists.{member}
 use Rattle.lists.proofs.Tests.{true-or-false}
-use Rattle.priority.specs.Priority.{priorityOf, homeOf}
+use Rattle.priority.specs.Priority.{homeOf}
 use Rattle.priority.proofs.Bounds.{homeOf-below}
 use Rattle.table.specs.Layout.{keyIn}
 use Rattle.table.specs.Table.{Sound}
@@ -18,7 +18,7 @@ use Rattle.table_find.specs.declared.Found.{Found}
 use Rattle.table_find.specs.declared.Found.the-variants.{At, Nowhere}
 use Rattle.table_find.proofs.Searching.{stops-on-empty, stops-on-key, stops-says, slot-comes-up, Ends, where-search-ends, found-at, found-nowhere}
 use Rattle.table_find.proofs.Searching.Ends.{ends-at, ends-nowhere}
-use Rattle.table.specs.Contents.{keysIn}
+use Rattle.table.specs.Contents.{keysIn, priorityIn}
 use Rattle.table_find.proofs.Finding.{held-key-found, absent-key-nowhere}
 
 -- ---- any words
@@ -58,15 +58,15 @@ module _ (many : ℕ) (some : 0 < many) (words : List ℕ) (key priority : ℕ) 
 -- ---- a sound table
 module _ (words : List ℕ) (sound : Sound words) where
   tells-its-slot : (key : ℕ) → member key (keysIn (sound .contents)) ≡ true
-      → TellsItsSlot (sound .many) words key (searched (sound .many) words key (priorityOf key))
+      → TellsItsSlot (sound .many) words key (searched (sound .many) words key (priorityIn (sound .contents) key))
   unfolding TellsItsSlot
   tells-its-slot key m =
       let many = sound .many in
-      let there : OnlyAt many words key (slotFound many words key (priorityOf key)) =
-      subst (λ (ws : List ℕ). OnlyAt many ws key (slotFound many ws key (priorityOf key))) (sym (sound .exactly))
+      let there : OnlyAt many words key (slotFound many words key (priorityIn (sound .contents) key)) =
+      subst (λ (ws : List ℕ). OnlyAt many ws key (slotFound many ws key (priorityIn (sound .contents) key))) (sym (sound .exactly))
       (held-key-found many (sound .contents) (sound .some) (sound .valid) key m)
       in
-      rw (found-at many (slotFound many words key (priorityOf key)) (there .below)) there
+      rw (found-at many (slotFound many words key (priorityIn (sound .contents) key)) (there .below)) there
 
   module _ (key priority : ℕ) (absent : member key (keysIn (sound .contents)) ≡ false) where
     nowhere : (slot : ℕ) → keyIn words slot ≡ key → key ≡ 0

@@ -16,13 +16,13 @@ use Rattle.lists.proofs.Keep.{all-map, all-always}
 use Rattle.lists.proofs.Membership.{all-member, all-of-members}
 use Rattle.lists.proofs.Pairwise.{pairwise-map}
 use Rattle.lists.proofs.Sorting.{all-permuted, length-permuted, sortBy-permutes}
-use Rattle.priority.specs.Priority.{priorityOf, homeOf}
+use Rattle.priority.specs.Priority.{homeOf}
 use Rattle.priority.proofs.Bounds.{homeOf-below}
 use Rattle.treap.specs.Treap.{outranks}
 use Rattle.treap.specs.Slots.{probes, slotsOf}
 use Rattle.table_slots.proofs.Placing.{empties-replicate}
 use Rattle.table.specs.Layout.{keyIn}
-use Rattle.table.specs.Contents.{Contents, IsKey, Valid, keysIn}
+use Rattle.table.specs.Contents.{Contents, IsKey, Valid, keysIn, priorityIn}
 use Rattle.table.specs.Table.{homeIn, fresh}
 use Rattle.table.proofs.Words.{placedKeys, placed-length, fresh-length, fresh-key}
 use Rattle.table_find.specs.Find.{stopsAt, slotFound, OnlyAt}
@@ -73,17 +73,17 @@ module _ (many : ℕ) (c : Contents) where
 -- ---- placing the keys of a table
 -- The keys in the order in which they are placed.
 abbrev inOrder : Contents → List ℕ
-inOrder c = sortBy (outranks priorityOf) (keysIn c)
+inOrder c = sortBy (outranks (priorityIn c)) (keysIn c)
 
 order-permutes : (c : Contents) → List·Permᴰ (keysIn c) (inOrder c)
-order-permutes c = Permᴰ·symm (sortBy-permutes (outranks priorityOf) (keysIn c))
+order-permutes c = Permᴰ·symm (sortBy-permutes (outranks (priorityIn c)) (keysIn c))
 
 module _ (many : ℕ) (c : Contents) (some : 1 ≤ many) (valid : Valid many c) where
-  home-inside : (k : ℕ) → homeIn many k < many
+  home-inside : (k : ℕ) → homeIn many (c .salt) k < many
   unfolding homeIn
-  home-inside k = homeOf-below (priorityOf k) some
+  home-inside k = homeOf-below (priorityIn c k) some
 
-  room : Room (homeIn many) many home-inside (replicate many 0) (inOrder c)
+  room : Room (homeIn many (c .salt)) many home-inside (replicate many 0) (inOrder c)
   room =
       record {
         size = length-replicate many 0;
@@ -99,20 +99,20 @@ module _ (many : ℕ) (c : Contents) (some : 1 ≤ many) (valid : Valid many c) 
       (pairwise-map (λ _. Unit {0}) _<_ _≢_ (λ x y _ _ (h : x < y) e. omega arith) (keysIn c)
       (all-always (λ _. Unit {0}) (λ _. tt) (keysIn c)) (valid .keys-rise))
 
-  held-key-lands : (k : ℕ) → 1 ≤ k → member k (keysIn c) ≡ true → Lands many (homeIn many k) k (placedKeys many c)
+  held-key-lands : (k : ℕ) → 1 ≤ k → member k (keysIn c) ≡ true → Lands many (homeIn many (c .salt) k) k (placedKeys many c)
   unfolding slotsOf
   held-key-lands k positive m =
       let kept : All (λ x. member x (inOrder c) ≡ true) (keysIn c) =
       all-permuted (λ x. member x (inOrder c) ≡ true) (Permᴰ·symm (order-permutes c))
       (all-of-members (λ x. member x (inOrder c) ≡ true) (inOrder c) (λ x h. h))
       in
-      placed-lands (homeIn many) many home-inside k (λ e. omega arith) (replicate many 0) (inOrder c) room different
+      placed-lands (homeIn many (c .salt)) many home-inside k (λ e. omega arith) (replicate many 0) (inOrder c) room different
       (all-member (λ x. member x (inOrder c) ≡ true) (keysIn c) k kept m) (empty-at-first many k positive)
 
   other-key-absent : (k : ℕ) → 1 ≤ k → member k (keysIn c) ≡ false → Absent k (placedKeys many c)
   unfolding slotsOf
   other-key-absent k positive m =
-      absent-after (homeIn many) many home-inside k (replicate many 0) (inOrder c) room
+      absent-after (homeIn many (c .salt)) many home-inside k (replicate many 0) (inOrder c) room
       (all-permuted (λ x. x ≢ k) (order-permutes c)
       (all-of-members (λ x. x ≢ k) (keysIn c)
       (λ x h e. true-or-false (member x (keysIn c)) h (ap (λ (z : ℕ). member z (keysIn c)) e ∙ m))))
@@ -121,12 +121,12 @@ module _ (many : ℕ) (c : Contents) (some : 1 ≤ many) (valid : Valid many c) 
   -- ---- the laws of the search
   -- "In a sound table, handed a held key's own priority, it finds that key's slot."
   pub held-key-found : (k : ℕ) → member k (keysIn c) ≡ true
-      → OnlyAt many (fresh many c) k (slotFound many (fresh many c) k (priorityOf k))
+      → OnlyAt many (fresh many c) k (slotFound many (fresh many c) k (priorityIn c k))
   unfolding homeIn
   held-key-found k m =
       let positive = all-member IsKey (keysIn c) k (valid .keys-right) m .0 in
       let lands = held-key-lands k positive m in
-      let s = endOf many (homeIn many k) k (placedKeys many c) in
+      let s = endOf many (homeIn many (c .salt) k) k (placedKeys many c) in
       rw found-is-end
       (record {
         below = omega (arith, placed-length many c, slot-within (placedKeys many c) k s positive (lands .holds));

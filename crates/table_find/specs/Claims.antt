@@ -5,12 +5,12 @@ use mathlib.Core.Logic.{_⊎_, _≢_}
 use mathlib.Core.Path.{_≡_}
 use Prim.Native.Nat.{ℕ, _+_, _%_, _<_}
 use Rattle.lists.specs.Lists.{member}
-use Rattle.priority.specs.Priority.{priorityOf, homeOf}
+use Rattle.priority.specs.Priority.{homeOf}
 use Rattle.table.specs.Layout.{keyIn}
 use Rattle.table.specs.Table.{Sound}
 use Rattle.table_find.specs.Find.{searched, OnlyAt}
 use Rattle.table_find.specs.declared.Found.{Found}
-use Rattle.table.specs.Contents.{keysIn}
+use Rattle.table.specs.Contents.{keysIn, priorityIn}
 use Rattle.table_find.specs.declared.Found.the-variants.{At, Nowhere}
 
 -- The slot so many steps "from that number's home on, slot 0 following the last".
@@ -52,7 +52,7 @@ pub record Search : Type 0 where
       → TellsFirst many words key priority (searched many words key priority)
   -- "In a sound table, handed a held key's own priority, it finds that key's slot."
   pub held-key : (words : List ℕ) (sound : Sound words) (key : ℕ) → member key (keysIn (sound .contents)) ≡ true
-      → TellsItsSlot (sound .many) words key (searched (sound .many) words key (priorityOf key))
+      → TellsItsSlot (sound .many) words key (searched (sound .many) words key (priorityIn (sound .contents) key))
   -- for a key that a sound table does not hold, handed any number, it ends at an empty slot or says that there is none
   pub absent-key : (words : List ℕ) (sound : Sound words) (key priority : ℕ) → member key (keysIn (sound .contents)) ≡ false
       → TellsNoKey (sound .many) words (searched (sound .many) words key priority)

@@ -1,4 +1,4 @@
--- The test of `judge` decides soundness: a table of 64-bit words passes exactly when its words are those of some order and some
+-- The test of `judge` decides soundness: a table of 64-bit words passes exactly when its words are those of some order, some salt and some
 -- set of keys. Assumes that the words are 64-bit numbers, as lent words are.
 use mathlib.Core.Bool.{Bool, true, false, _&&_, not}
 use mathlib.Core.List.{List}

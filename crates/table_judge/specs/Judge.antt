@@ -7,7 +7,7 @@ use lib.ListN.{length}
 use Rattle.table.specs.Sound.{soundWith}
 use Rattle.table_limits.specs.Lengths.{slotsFor}
 
--- A table of a right length that is sound for its number of slots: its measures are within the rules, and its words are those of the order and
--- the set that it shows.
+-- A table of a right length that is sound for its number of slots: its measures are within the rules, and its words are those of the order,
+-- the salt and the set that it shows.
 unfoldable pub isSound : List ℕ → Bool
 isSound words = not (eqb (slotsFor (length words)) 0) && soundWith (slotsFor (length words)) words

@@ -15,7 +15,7 @@ use Rattle.lists.proofs.Keep.{all-map, all-always}
 use Rattle.lists.proofs.Membership.{all-member}
 use Rattle.lists.proofs.Pairwise.{pairwise-map}
 use Rattle.lists.proofs.UpFrom.{upFrom-within, upFrom-rising, upFrom-member}
-use Rattle.priority.specs.Priority.{priorityOf, homeOf}
+use Rattle.priority.specs.Priority.{priorityWith, homeOf}
 use Rattle.sorting.specs.ByWeight.{heavier, byWeight}
 use Rattle.sorting.proofs.ByWeight.{byWeight-length, byWeight-within, byWeight-member, byWeight-ordered}
 use Rattle.treap.specs.Treap.{Tree, keys, rootKey, outranks, top, treap, leftLink, rightLink}
@@ -87,13 +87,13 @@ module _ (ws : List ℕ) where
 pub room : (column new : List ℕ) (n : ℕ) → take n column ≡ new → length new ≡ n → n ≤ length column
 room column new n e h = let m = length-take n column in let l = ap length e in omega arith
 
-module _ (ks weights : List ℕ) (weights-are : take (length ks) weights ≡ map priorityOf ks) where
+module _ (salt : ℕ) (ks weights : List ℕ) (weights-are : take (length ks) weights ≡ map (priorityWith salt) ks) where
   pub many-weights : length (take (length ks) weights) ≡ length ks
-  many-weights = ap length weights-are ∙ length-map ks priorityOf
+  many-weights = ap length weights-are ∙ length-map ks (priorityWith salt)
 
-  pub ranking-in-order : (ranking : List ℕ) → take (length ks) ranking ≡ byWeight (map priorityOf ks)
+  pub ranking-in-order : (ranking : List ℕ) → take (length ks) ranking ≡ byWeight (map (priorityWith salt) ks)
       → InOrder (take (length ks) weights) (take (length ks) ranking)
-  ranking-in-order ranking e = subst₂ InOrder (sym weights-are) (sym e) (in-order (map priorityOf ks))
+  ranking-in-order ranking e = subst₂ InOrder (sym weights-are) (sym e) (in-order (map (priorityWith salt) ks))
 
   pub placed-many : (slots lent : List ℕ)
       → slots ≡ slotsOf (weightAt (take (length ks) weights)) (λ i. homeOf (weightAt (take (length ks) weights) i) (length lent)) (length lent) (positions (length (take (length ks) weights)))
@@ -109,14 +109,14 @@ module _ (ks weights : List ℕ) (weights-are : take (length ks) weights ≡ map
       → root ≡ top (weightAt (take (length ks) weights)) (positions (length (take (length ks) weights)))
       → Filled order (take (length ks) weights) left right rank count lead
       → slots ≡ slotsOf (weightAt (take (length ks) weights)) (λ i. homeOf (weightAt (take (length ks) weights) i) (length lent)) (length lent) (positions (length (take (length ks) weights)))
-      → Prepared order ks left right rank count lead slots root
+      → Prepared order salt ks left right rank count lead slots root
   prepared-from order left right rank count lead slots lent root r f s =
-      let ws = map priorityOf ks in
+      let ws = map (priorityWith salt) ks in
       let n = length ks in
       let same = placed-many slots lent s in
       let filled : Filled order ws left right rank count lead = subst (λ (w : List ℕ). Filled order w left right rank count lead) weights-are f in
       let space : (column : List ℕ) (g : ℕ → ℕ) → take (length ws) column ≡ map g (positions (length ws)) → n ≤ length column =
-      λ column g e. let h = room column (map g (positions (length ws))) (length ws) e (column-length g (length ws)) in let m = length-map ks priorityOf in omega arith
+      λ column g e. let h = room column (map g (positions (length ws))) (length ws) e (column-length g (length ws)) in let m = length-map ks (priorityWith salt) in omega arith
       in
       record {
         root-is = r ∙ ap₂ (λ (w : List ℕ) (m : ℕ). top (weightAt w) (positions m)) weights-are many-weights;

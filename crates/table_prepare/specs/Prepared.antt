@@ -4,7 +4,7 @@ use mathlib.Core.Path.{_≡_}
 use Prim.Native.Nat.{ℕ, _≤_}
 use lib.ListN.{length, take}
 use Rattle.lists.specs.Lists.{All, Rising}
-use Rattle.priority.specs.Priority.{priorityOf, homeOf}
+use Rattle.priority.specs.Priority.{priorityWith, homeOf}
 use Rattle.treap.specs.Treap.{top}
 use Rattle.treap.specs.Slots.{slotsOf}
 use Rattle.treap_columns.specs.Positions.{positions, weightAt}
@@ -27,11 +27,11 @@ pub record Keys (order : ℕ) (keys : List ℕ) : Type 0 where
   pub some : All (λ k. 1 ≤ k) keys
   pub few : length keys ≤ mostSlots
 
--- What a table is written from: the columns of the keys, their slots and their root, by position.
-pub record Prepared (order : ℕ) (keys left right rank count leader slots : List ℕ) (root : ℕ) : Type 0 where
-  pub root-is : root ≡ top (weightAt (map priorityOf keys)) (positions (length keys))
-  pub filled : Filled order (map priorityOf keys) left right rank count leader
-  pub placed : slots ≡ slotsOf (weightAt (map priorityOf keys)) (λ i. homeOf (weightAt (map priorityOf keys) i) (length slots)) (length slots) (positions (length keys))
+-- What a table is written from: the columns of the keys, their slots and their root, by position, under a salt.
+pub record Prepared (order salt : ℕ) (keys left right rank count leader slots : List ℕ) (root : ℕ) : Type 0 where
+  pub root-is : root ≡ top (weightAt (map (priorityWith salt) keys)) (positions (length keys))
+  pub filled : Filled order (map (priorityWith salt) keys) left right rank count leader
+  pub placed : slots ≡ slotsOf (weightAt (map (priorityWith salt) keys)) (λ i. homeOf (weightAt (map (priorityWith salt) keys) i) (length slots)) (length slots) (positions (length keys))
   pub left-room : length keys ≤ length left
   pub right-room : length keys ≤ length right
   pub rank-room : length keys ≤ length rank

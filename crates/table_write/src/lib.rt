@@ -1,4 +1,4 @@
-// Writing a table from its order, its keys and the tags of their measures.
+// Writing a table from its order, its salt, its keys and the tags of their measures.
 ghost use mathlib.Core.Path.{_≡_};
 ghost use Prim.Native.Nat.{_<_, _≤_};
 ghost use lib.ListN.{length};
@@ -9,7 +9,7 @@ ghost use Rattle.table.specs.Tags.{tagged, Beside};
 ghost use Rattle.table_prepare.specs.Prepared.{Keys};
 use priority::CONSTANT_COUNT;
 
-// Write the table of the order and the keys with the measures beside them, with lists to work in that are at least as long as it has slots.
+// Write the table of the order, the salt and the keys with the measures beside them, with lists to work in that are at least as long as it has slots.
 fn write_within(
     order: u64,
     keys: &[u64],
@@ -25,12 +25,13 @@ fn write_within(
     slots: &mut [u16],
     table: &mut [u64],
     constants: &[u64; CONSTANT_COUNT],
+    salt: u64,
 )
     requires { ⌜ Keys order (now keys) × Beside (now keys) (now tags) ⌝ }
     requires { ⌜ (0 < many) × (many ≤ mostSlots) × (length (now keys) ≤ many) × (length (now table) ≡ tableWords many) ⌝ }
     requires { ⌜ (many ≤ length (now weights)) × (many ≤ length (now ranking)) × (many ≤ length (now left)) × (many ≤ length (now right)) ⌝ }
     requires { ⌜ (many ≤ length (now rank)) × (many ≤ length (now count)) × (many ≤ length (now leader)) × (many ≤ length (now slots)) × HoldsConstants (now constants) ⌝ }
-    ensures { λ _. ⌜ now (table .exit) ≡ fresh many (tagged order (now (keys .entry)) (now (tags .entry))) ⌝ }
+    ensures { λ _. ⌜ now (table .exit) ≡ fresh many (tagged order salt (now (keys .entry)) (now (tags .entry))) ⌝ }
 {
     let root = table_prepare::prepare(
         order,
@@ -45,6 +46,7 @@ fn write_within(
         leader,
         slots,
         constants,
+        salt,
     );
     table_encode::emit(
         order,
@@ -58,10 +60,11 @@ fn write_within(
         count,
         &slots[..many],
         table,
+        salt,
     );
 }
 
-// Write the table of the order and the keys with the measures beside them over whatever it held. Internal to this library's crates: they
+// Write the table of the order, the salt and the keys with the measures beside them over whatever it held. Internal to this library's crates: they
 // lend the constants of the priorities.
 pub fn write(
     order: u64,
@@ -70,10 +73,11 @@ pub fn write(
     many: usize,
     table: &mut [u64],
     constants: &[u64; CONSTANT_COUNT],
+    salt: u64,
 )
     requires { ⌜ Keys order (now keys) × Beside (now keys) (now tags) ⌝ }
     requires { ⌜ (0 < many) × (length (now keys) ≤ many) × (length (now table) ≡ tableWords many) × (many ≤ mostSlots) × HoldsConstants (now constants) ⌝ }
-    ensures { λ _. ⌜ now (table .exit) ≡ fresh many (tagged order (now (keys .entry)) (now (tags .entry))) ⌝ }
+    ensures { λ _. ⌜ now (table .exit) ≡ fresh many (tagged order salt (now (keys .entry)) (now (tags .entry))) ⌝ }
 {
     let mut weights = [0u64; 4096];
     let mut ranking = [0u16; 4096];
@@ -98,5 +102,6 @@ pub fn write(
         &mut slots,
         table,
         constants,
+        salt,
     );
 }

@@ -6,17 +6,17 @@ use lib.Dec.{eqb}
 use Rattle.lists.proofs.Tests.{by-test}
 use Rattle.treap.specs.Image.{countBytes, keyBytes, headerRecord, blockRecord, nodeFields, nodeRecord}
 use Rattle.image.specs.Layout.{sizeAt, rootAt, leaderAt, levelAt, rankAt, countAt}
-use Rattle.image.specs.Image.{fieldAt}
+use Rattle.image.specs.Image.{salted, fieldAt}
 use Rattle.image.proofs.Bytes.{number-of-bytes}
 
-module _ (order n b root : ℕ) (rest : List ℕ) where
-  pub header-size : n < 65536 → fieldAt sizeAt countBytes (headerRecord order n b root ++ rest) ≡ n
-  unfolding headerRecord fieldAt
-  header-size h = number-of-bytes countBytes n h
+module _ (salt order n b root : ℕ) (rest : List ℕ) where
+  pub header-size : n < 65536 → fieldAt sizeAt countBytes (salted salt (headerRecord order n b root) ++ rest) ≡ n
+  unfolding headerRecord salted fieldAt
+  header-size h = by-test (eqb salt 0) (λ e. rw e (number-of-bytes countBytes n h)) (λ e. rw e (number-of-bytes countBytes n h))
 
-  pub header-root : root < 2 ^ 64 → fieldAt rootAt keyBytes (headerRecord order n b root ++ rest) ≡ root
-  unfolding headerRecord fieldAt
-  header-root h = number-of-bytes keyBytes root h
+  pub header-root : root < 2 ^ 64 → fieldAt rootAt keyBytes (salted salt (headerRecord order n b root) ++ rest) ≡ root
+  unfolding headerRecord salted fieldAt
+  header-root h = by-test (eqb salt 0) (λ e. rw e (number-of-bytes keyBytes root h)) (λ e. rw e (number-of-bytes keyBytes root h))
 
 module _ (leader level n : ℕ) (rest : List ℕ) where
   pub block-leader : leader < 2 ^ 64 → fieldAt leaderAt keyBytes (blockRecord leader level n ++ rest) ≡ leader

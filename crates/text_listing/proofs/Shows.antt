@@ -14,23 +14,23 @@ use Rattle.lists.proofs.Tests.{by-test}
 use Rattle.lists.proofs.Keep.{all-map, all-both}
 use Rattle.lists.proofs.Membership.{all-member}
 use Rattle.measure.specs.Measure.{storedCorrection}
-use Rattle.priority.specs.Priority.{priorityOf}
 use Rattle.treap.specs.Treap.{top, leftLink, rightLink}
 use Rattle.treap.specs.Levels.{rank, count}
 use Rattle.treap.specs.Blocks.{Block, blocks, fill}
-use Rattle.treap.specs.Image.{orderBytes, countBytes, keyBytes, headerRecord, blockRecord, nodeRecord, nodeOf, blockPart, image}
+use Rattle.treap.specs.Image.{orderBytes, countBytes, keyBytes, blockRecord, nodeRecord, nodeOf, blockPart}
 use Rattle.treap_structure.proofs.Blocks.{Holds, blocks-hold}
 use Rattle.table.specs.Layout.{mostSlots}
-use Rattle.table.specs.Contents.{Contents, Valid, keysIn, measureIn}
+use Rattle.table.specs.Contents.{Contents, Valid, keysIn, priorityIn, measureIn}
 use Rattle.table.proofs.Orders.{order-within, order-wide}
-use Rattle.image.specs.Layout.{headerBytes, blockBytes, orderAt, sizeAt, blocksAt, rootAt, heldAt, mostBytes, IsByte}
-use Rattle.image.specs.Image.{imageOf, readImage, isImage, fieldAt, nodesSpan}
+use Rattle.image.specs.Layout.{blockBytes, orderAt, sizeAt, blocksAt, rootAt, heldAt, mostBytes, IsByte}
+use Rattle.image.specs.Image.{imageOf, headerSpan, readImage, isImage, fieldAt, nodesSpan}
 use Rattle.image.proofs.Judging.{is-image-says}
-use Rattle.image.proofs.Records.{header-length, header-order, header-blocks, header-dropped, block-held, block-dropped, node-key}
-use Rattle.image.proofs.Lengths.{blockPart-length, image-longest}
-use Rattle.image.proofs.Reading.{nodeOf-left, nodes-first, nodes-span}
+use Rattle.image.proofs.Records.{header-order, header-blocks, block-held, block-dropped, node-key}
+use Rattle.image.proofs.Lengths.{blockPart-length, image-is, image-length, image-longest}
+use Rattle.image.proofs.Reading.{nodeOf-left, nodes-first, nodes-span, span-read, parts-read}
 use Rattle.image.proofs.Fits.{HeaderFits, BlockFits, NodeFits, header-fits, blocks-fit-fields, nodes-fit-fields}
 use Rattle.text_listing.specs.Listing.{keyLineOf, blockLines, listing, listingOf}
+use Rattle.image_collect.proofs.Nodes.{header-within}
 use Rattle.text_listing.specs.Shown.{shownKey, shownKeys, heldIn, partBytes, shownBlockLine, shownBlock, shownBlocks, shown, HasBlocks, HasRecords}
 use Rattle.text_listing.proofs.RecordFields.{header-size, header-root, block-leader, block-level, node-rank, node-count}
 use Rattle.text_listing.proofs.Walking.{key-line-shown, block-line-shown, header-line-shown}
@@ -42,25 +42,25 @@ pub record Listable (c : Contents) (b : Block) : Type 0 where
 
 module _ (c : Contents) where
   abbrev node : ℕ → List ℕ
-  node = nodeOf (c .order) priorityOf (measureIn (c .entries)) (keysIn c)
+  node = nodeOf (c .order) (priorityIn c) (measureIn (c .entries)) (keysIn c)
 
   abbrev part : Block → List ℕ
-  part = blockPart (c .order) priorityOf (measureIn (c .entries)) (keysIn c)
+  part = blockPart (c .order) (priorityIn c) (measureIn (c .entries)) (keysIn c)
 
   abbrev line : ℕ → List ℕ
-  line = keyLineOf (c .order) priorityOf (keysIn c)
+  line = keyLineOf (c .order) (priorityIn c) (keysIn c)
 
   abbrev lines : Block → List ℕ
-  lines = blockLines (c .order) priorityOf (keysIn c)
+  lines = blockLines (c .order) (priorityIn c) (keysIn c)
 
   -- ---- the keys, whatever follows them
   key-shown : (k : ℕ) (rest : List ℕ) → NodeFits c k → shownKey (node k ++ rest) ≡ line k
   unfolding nodeOf keyLineOf
   key-shown k rest fits =
-      let left = leftLink priorityOf (keysIn c) k in
-      let right = rightLink priorityOf (keysIn c) k in
-      let r = rank (c .order) priorityOf (keysIn c) k in
-      let n = count (c .order) priorityOf (keysIn c) k in
+      let left = leftLink (priorityIn c) (keysIn c) k in
+      let right = rightLink (priorityIn c) (keysIn c) k in
+      let r = rank (c .order) (priorityIn c) (keysIn c) k in
+      let n = count (c .order) (priorityIn c) (keysIn c) k in
       let long = measureIn (c .entries) k .length in
       let stored = storedCorrection (measureIn (c .entries) k) in
       sym
@@ -72,8 +72,8 @@ module _ (c : Contents) where
   keys-shown [] rest h = refl
   keys-shown (x ∷ xs) rest h =
       let later = flatMap node xs ++ rest in
-      ap (shownKeys (suc (length xs))) (nodes-first (c .order) priorityOf (measureIn (c .entries)) (keysIn c) x xs rest)
-      ∙ ap₂ (λ (text bytes : List ℕ). text ++ shownKeys (length xs) bytes) (key-shown x later (h .0)) (nodeOf-left (c .order) priorityOf (measureIn (c .entries)) (keysIn c) x later)
+      ap (shownKeys (suc (length xs))) (nodes-first (c .order) (priorityIn c) (measureIn (c .entries)) (keysIn c) x xs rest)
+      ∙ ap₂ (λ (text bytes : List ℕ). text ++ shownKeys (length xs) bytes) (key-shown x later (h .0)) (nodeOf-left (c .order) (priorityIn c) (measureIn (c .entries)) (keysIn c) x later)
       ∙ ap (λ (text : List ℕ). line x ++ text) (keys-shown xs rest (h .1))
 
   -- ---- the blocks, whatever follows them
@@ -107,11 +107,11 @@ module _ (c : Contents) where
     part-size : length (part b) ≡ partBytes (part b ++ rest)
     unfolding partBytes
     part-size =
-        blockPart-length (c .order) priorityOf (measureIn (c .entries)) (keysIn c) b
+        blockPart-length (c .order) (priorityIn c) (measureIn (c .entries)) (keysIn c) b
         ∙ ap (λ (n : ℕ). blockBytes + n)
         (sym
         (ap₂ nodesSpan held-shown nodes-shown
-        ∙ nodes-span (c .order) priorityOf (measureIn (c .entries)) (keysIn c) (b .held) rest))
+        ∙ nodes-span (c .order) (priorityIn c) (measureIn (c .entries)) (keysIn c) (b .held) rest))
 
   blocks-shown : (bs : List Block) → All (Listable c) bs → shownBlocks (length bs) (flatMap part bs) ≡ flatMap lines bs
   unfolding flatMap
@@ -138,53 +138,45 @@ module _ (c : Contents) (valid : Valid mostSlots c) where
   wide = order-wide (c .order) (valid .order-right)
 
   abbrev all-blocks : List Block
-  all-blocks = blocks (c .order) priorityOf (keysIn c)
+  all-blocks = blocks (c .order) (priorityIn c) (keysIn c)
 
   abbrev records : List ℕ
-  records = flatMap (blockPart (c .order) priorityOf (measureIn (c .entries)) (keysIn c)) all-blocks
+  records = flatMap (blockPart (c .order) (priorityIn c) (measureIn (c .entries)) (keysIn c)) all-blocks
 
   listable : All (Listable c) all-blocks
   listable =
-      all-map (λ b. BlockFits b × Holds (c .order) priorityOf (keysIn c) wide (valid .keys-rise) b) (Listable c)
+      all-map (λ b. BlockFits b × Holds (c .order) (priorityIn c) (keysIn c) wide (valid .keys-rise) b) (Listable c)
       (λ b h.
       record {
         block = h .0;
         nodes = all-map (λ k. member k (keysIn c) ≡ true) (NodeFits c) (λ k m. all-member (NodeFits c) (keysIn c) k (nodes-fit-fields c valid) m) (b .held) (h .1 .keys-of);
       })
       all-blocks
-      (all-both BlockFits (Holds (c .order) priorityOf (keysIn c) wide (valid .keys-rise)) all-blocks (blocks-fit-fields c valid) (blocks-hold (c .order) priorityOf (keysIn c) wide (valid .keys-rise)))
+      (all-both BlockFits (Holds (c .order) (priorityIn c) (keysIn c) wide (valid .keys-rise)) all-blocks (blocks-fit-fields c valid) (blocks-hold (c .order) (priorityIn c) (keysIn c) wide (valid .keys-rise)))
 
   -- the fields of the header, and what follows it
   module _ (fits : HeaderFits c) where
     order-read : fieldAt orderAt orderBytes (imageOf c) ≡ c .order
-    unfolding imageOf image
-    order-read = header-order (c .order) (length (keysIn c)) (length all-blocks) (top priorityOf (keysIn c)) records (fits .order)
+    order-read = ap (fieldAt orderAt orderBytes) (image-is c) ∙ header-order (c .salt) (c .order) (length (keysIn c)) (length all-blocks) (top (priorityIn c) (keysIn c)) records (fits .order)
 
     size-read : fieldAt sizeAt countBytes (imageOf c) ≡ length (keysIn c)
-    unfolding imageOf image
-    size-read = header-size (c .order) (length (keysIn c)) (length all-blocks) (top priorityOf (keysIn c)) records (fits .size)
+    size-read = ap (fieldAt sizeAt countBytes) (image-is c) ∙ header-size (c .salt) (c .order) (length (keysIn c)) (length all-blocks) (top (priorityIn c) (keysIn c)) records (fits .size)
 
     number-read : fieldAt blocksAt countBytes (imageOf c) ≡ length all-blocks
-    unfolding imageOf image
-    number-read = header-blocks (c .order) (length (keysIn c)) (length all-blocks) (top priorityOf (keysIn c)) records (fits .number)
+    number-read = ap (fieldAt blocksAt countBytes) (image-is c) ∙ header-blocks (c .salt) (c .order) (length (keysIn c)) (length all-blocks) (top (priorityIn c) (keysIn c)) records (fits .number)
 
-    root-read : fieldAt rootAt keyBytes (imageOf c) ≡ top priorityOf (keysIn c)
-    unfolding imageOf image
-    root-read = header-root (c .order) (length (keysIn c)) (length all-blocks) (top priorityOf (keysIn c)) records (fits .root)
+    root-read : fieldAt rootAt keyBytes (imageOf c) ≡ top (priorityIn c) (keysIn c)
+    root-read = ap (fieldAt rootAt keyBytes) (image-is c) ∙ header-root (c .salt) (c .order) (length (keysIn c)) (length all-blocks) (top (priorityIn c) (keysIn c)) records (fits .root)
 
-  records-read : drop headerBytes (imageOf c) ≡ records
-  unfolding imageOf image
-  records-read = header-dropped (c .order) (length (keysIn c)) (length all-blocks) (top priorityOf (keysIn c)) records
+  records-read : drop (headerSpan (imageOf c)) (imageOf c) ≡ records
+  records-read = parts-read c valid
 
   some-block : min 1 (length (keysIn c)) ≤ length all-blocks
   unfolding blocks
   some-block = by-test (ltb 0 (length (keysIn c))) (λ e. rw e (omega arith)) (λ e. let none = ltb-false 0 (length (keysIn c)) e in rw e (omega arith))
 
-  header-there : headerBytes ≤ length (imageOf c)
-  unfolding imageOf image
-  header-there =
-      let header = headerRecord (c .order) (length (keysIn c)) (length all-blocks) (top priorityOf (keysIn c)) in
-      omega (arith, length-append header records, header-length (c .order) (length (keysIn c)) (length all-blocks) (top priorityOf (keysIn c)))
+  header-there : headerSpan (imageOf c) ≤ length (imageOf c)
+  header-there = omega (arith, span-read c valid, image-length c valid)
 
   -- its records show its listing
   pub image-shows : shown (imageOf c) ≡ listingOf c
@@ -193,7 +185,7 @@ module _ (c : Contents) (valid : Valid mostSlots c) where
       let fits = header-fits c valid in
       ap₂ (λ (xs ys : List ℕ). xs ++ ys)
       (sym
-      (header-line-shown (imageOf c) (c .order) (length (keysIn c)) (length all-blocks) (fill (c .order) (length (keysIn c)) (length all-blocks)) (top priorityOf (keysIn c)) (sym (order-read fits)) (sym (size-read fits))
+      (header-line-shown (imageOf c) (c .order) (length (keysIn c)) (length all-blocks) (fill (c .order) (length (keysIn c)) (length all-blocks)) (top (priorityIn c) (keysIn c)) (sym (order-read fits)) (sym (size-read fits))
       (sym (number-read fits)) refl (sym (root-read fits))))
       (ap₂ shownBlocks (number-read fits) records-read ∙ blocks-shown c all-blocks listable)
 
@@ -201,7 +193,8 @@ module _ (c : Contents) (valid : Valid mostSlots c) where
   image-has-records =
       let fits = header-fits c valid in
       record {
-        header = header-there;
+        header = omega (arith, header-there, header-within (imageOf c));
+        whole = header-there;
         order-least = omega (arith, order-read fits, order-within (c .order) (valid .order-right));
         order-most = omega (arith, order-read fits, fits .order);
         keys-most = omega (arith, size-read fits, fits .size);

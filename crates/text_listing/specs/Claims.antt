@@ -5,10 +5,9 @@ use mathlib.Core.Path.{_≡_}
 use Prim.Native.Nat.{ℕ}
 use Rattle.lists.specs.Lists.{All}
 use Rattle.measure.specs.Measure.{Measure}
-use Rattle.priority.specs.Priority.{priorityOf}
 use Rattle.treap.specs.Examples.{written}
 use Rattle.treap_ceilings.specs.BlockClaims.{WithinCeilings}
-use Rattle.table.specs.Contents.{keysIn}
+use Rattle.table.specs.Contents.{keysIn, priorityIn}
 use Rattle.image.specs.Layout.{IsByte}
 use Rattle.image.specs.Image.{isImage, readImage}
 use Rattle.text.specs.Ascii.{ascii}
@@ -30,10 +29,10 @@ abbrev pub textOfNone : List ℕ
 textOfNone = ascii "order 3 keys 0 blocks 0 fill 0 root 0000000000000000\n"
 
 pub record Listings : Type 0 where
-  -- "For B's image .. it prints exactly" (document 01): key 5 in order 3, whatever its measure
-  pub example-b : (m : Measure) → listingOf (record { order = 3; entries = record { key = 5; measure = m } ∷ [] }) ≡ textOfB
+  -- "For B's image .. it prints exactly" (document 01): key 5 in order 3, whatever its measure, and "the listing shows no salt" (02, N9)
+  pub example-b : (salt : ℕ) (m : Measure) → listingOf (record { order = 3; salt = salt; entries = record { key = 5; measure = m } ∷ [] }) ≡ textOfB
   -- "Example G reads 46" (document 02, N8)
   pub example-g : listing 3 (written (3 ∷ 2 ∷ 4 ∷ 1 ∷ 5 ∷ 6 ∷ [])) (1 ∷ 2 ∷ 3 ∷ 4 ∷ 5 ∷ 6 ∷ []) ≡ textOfG
-  pub empty : listingOf (record { order = 3; entries = [] }) ≡ textOfNone
+  pub empty : (salt : ℕ) → listingOf (record { order = 3; salt = salt; entries = [] }) ≡ textOfNone
   -- in every image, and so in every listing, the root block has at most 2α−1 keys, any other at most 2α−2, and fill is at most 100
-  pub every-image : (bytes : List ℕ) → All IsByte bytes → isImage bytes ≡ true → WithinCeilings (readImage bytes .order) priorityOf (keysIn (readImage bytes))
+  pub every-image : (bytes : List ℕ) → All IsByte bytes → isImage bytes ≡ true → WithinCeilings (readImage bytes .order) (priorityIn (readImage bytes)) (keysIn (readImage bytes))

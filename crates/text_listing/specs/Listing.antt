@@ -3,11 +3,10 @@
 use mathlib.Core.List.{List, _++_, flatMap}
 use Prim.Native.Nat.{ℕ}
 use lib.ListN.{length}
-use Rattle.priority.specs.Priority.{priorityOf}
 use Rattle.treap.specs.Treap.{top}
 use Rattle.treap.specs.Levels.{rank, count}
 use Rattle.treap.specs.Blocks.{Block, blocks, fill}
-use Rattle.table.specs.Contents.{Contents, keysIn}
+use Rattle.table.specs.Contents.{Contents, keysIn, priorityIn}
 use Rattle.text_lines.specs.Lines.{headerLine, blockLine, keyLine}
 
 module _ (α : ℕ) (p : ℕ → ℕ) (ks : List ℕ) where
@@ -25,6 +24,6 @@ module _ (α : ℕ) (p : ℕ → ℕ) (ks : List ℕ) where
       let b = length (blocks α p ks) in
       headerLine α (length ks) b (fill α (length ks) b) (top p ks) ++ flatMap blockLines (blocks α p ks)
 
--- The listing of an order and a set.
+-- The listing of an order, a salt and a set: "the listing shows no salt" (02, N9).
 unfoldable pub listingOf : Contents → List ℕ
-listingOf c = listing (c .order) priorityOf (keysIn c)
+listingOf c = listing (c .order) (priorityIn c) (keysIn c)

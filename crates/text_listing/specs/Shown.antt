@@ -5,7 +5,7 @@ use lib.ListN.{length, drop}
 use Rattle.treap.specs.Image.{orderBytes, countBytes, keyBytes}
 use Rattle.treap.specs.Blocks.{fill}
 use Rattle.image.specs.Layout.{headerBytes, blockBytes, orderAt, sizeAt, blocksAt, rootAt, leaderAt, levelAt, heldAt, keyAt, rankAt, countAt}
-use Rattle.image.specs.Image.{fieldAt, nodeSpan, nodesSpan}
+use Rattle.image.specs.Image.{headerSpan, fieldAt, nodeSpan, nodesSpan}
 use Rattle.text_lines.specs.Lines.{headerLine, blockLine, keyLine}
 
 -- The line of the node record at the start of the bytes.
@@ -48,7 +48,7 @@ shownHeader bytes =
 
 -- All lines.
 unfoldable pub shown : List ℕ → List ℕ
-shown bytes = shownHeader bytes ++ shownBlocks (fieldAt blocksAt countBytes bytes) (drop headerBytes bytes)
+shown bytes = shownHeader bytes ++ shownBlocks (fieldAt blocksAt countBytes bytes) (drop (headerSpan bytes) bytes)
 
 -- The bytes have the records of so many blocks.
 abbrev pub HasBlocks : ℕ → List ℕ → Type 0
@@ -58,12 +58,13 @@ HasBlocks (suc many) bytes = (partBytes bytes ≤ length bytes) × HasBlocks man
 -- The bytes have a header, whose numbers are as they may be, and the records of as many blocks as it says.
 pub record HasRecords (bytes : List ℕ) : Type 0 where
   pub header : headerBytes ≤ length bytes
+  pub whole : headerSpan bytes ≤ length bytes
   pub order-least : 1 ≤ fieldAt orderAt orderBytes bytes
   pub order-most : fieldAt orderAt orderBytes bytes < 256
   pub keys-most : fieldAt sizeAt countBytes bytes < 65536
   pub blocks-most : fieldAt blocksAt countBytes bytes < 65536
   pub blocks-least : min 1 (fieldAt sizeAt countBytes bytes) ≤ fieldAt blocksAt countBytes bytes
-  pub blocks : HasBlocks (fieldAt blocksAt countBytes bytes) (drop headerBytes bytes)
+  pub blocks : HasBlocks (fieldAt blocksAt countBytes bytes) (drop (headerSpan bytes) bytes)
 
 -- No line is longer than so many times the record that it shows.
 abbrev pub mostGrowth : ℕ

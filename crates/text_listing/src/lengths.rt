@@ -11,7 +11,6 @@ use image::BLOCK_BYTES;
 use image::BLOCKS_AT;
 use image::COUNT_AT;
 use image::COUNT_BYTES;
-use image::HEADER_BYTES;
 use image::HELD_AT;
 use image::KEY_AT;
 use image::KEY_BYTES;
@@ -98,7 +97,7 @@ pub fn records(image: &[u8]) -> usize
     requires { ⌜ length (now image) ≤ mostBytes ⌝ }
     ensures { λ r. ⌜ (r ≡ length (shown (now (image .entry)))) × (r ≤ mostGrowth * length (now (image .entry))) ⌝ }
 {
+    let start = image_collect::header_span(image);
     let many = image_fields::get(image, BLOCKS_AT, COUNT_BYTES);
-    let start = HEADER_BYTES;
     header(image) + blocks(&image[start..], many)
 }

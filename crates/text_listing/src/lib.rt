@@ -16,7 +16,6 @@ use image::BLOCK_BYTES;
 use image::BLOCKS_AT;
 use image::COUNT_AT;
 use image::COUNT_BYTES;
-use image::HEADER_BYTES;
 use image::HELD_AT;
 use image::KEY_AT;
 use image::KEY_BYTES;
@@ -144,9 +143,9 @@ fn put_records(image: &[u8], output: &mut [u8]) -> usize
     requires { ⌜ length (shown (now image)) ≤ length (now output) ⌝ }
     ensures { λ r. ⌜ Written (now (output .entry)) 0 (shown (now (image .entry))) (now (output .exit)) r ⌝ }
 {
+    let start = image_collect::header_span(image);
     let many = image_fields::get(image, BLOCKS_AT, COUNT_BYTES);
     let to = put_header(image, output);
-    let start = HEADER_BYTES;
     put_blocks(&image[start..], many, output, to)
 }
 

@@ -45,12 +45,12 @@ page-pieces keys tags ranks counts leaders before end e =
     ap₂ (λ (n to : ℕ). headingLine n ++ shownLines keys tags ranks counts leaders (pageKeys * before) to) number (sym e)
 
 module _ (c : Contents) (few : length (keysIn c) ≤ mostSlots) (rising : Rising (keysIn c)) (right : All (λ e. rightMeasure e ≡ true) (c .entries))
-    {keys tags ranks counts leaders : List ℕ} (keys-are : keys ≡ keysIn c) (tags-are : tags ≡ tagsIn c) (stands : StandingsOf (c .order) (keysIn c) ranks counts leaders) where
+    {keys tags ranks counts leaders : List ℕ} (keys-are : keys ≡ keysIn c) (tags-are : tags ≡ tagsIn c) (stands : StandingsOf (c .order) (c .salt) (keysIn c) ranks counts leaders) where
   beside : Beside keys tags
   beside = beside-of (c .entries) right keys-are tags-are
 
-  standing : StandingsOf (c .order) keys ranks counts leaders
-  standing = subst (λ (ks : List ℕ). StandingsOf (c .order) ks ranks counts leaders) (sym keys-are) stands
+  standing : StandingsOf (c .order) (c .salt) keys ranks counts leaders
+  standing = subst (λ (ks : List ℕ). StandingsOf (c .order) (c .salt) ks ranks counts leaders) (sym keys-are) stands
 
   as-many : length keys ≡ length (keysIn c)
   as-many = ap length keys-are

@@ -17,10 +17,10 @@ pub counts-worked : map pageCount (0 ∷ 1 ∷ 49 ∷ 50 ∷ 51 ∷ 100 ∷ 101 
 unfolding pageCount roundedUp
 counts-worked = refl
 
-pub empty-worked : (order : ℕ) → pagesOf (record { order = order; entries = [] }) ≡ ascii "PAGE 0001\n"
+pub empty-worked : (order salt : ℕ) → pagesOf (record { order = order; salt = salt; entries = [] }) ≡ ascii "PAGE 0001\n"
 unfolding pagesOf pageCount roundedUp pageOf headingLine flatMap
-empty-worked order = refl
+empty-worked order salt = refl
 
-pub page-worked : pagesOf single ≡ ascii "PAGE 0001\n0000000000000005    0    1 0000000000000000 40.0\n"
+pub page-worked : (salt : ℕ) → pagesOf (single salt) ≡ ascii "PAGE 0001\n0000000000000005    0    1 0000000000000000 40.0\n"
 unfolding pagesOf pageCount roundedUp pageOf lineOf headingLine pageLine pointsText rightAligned decimal hexadecimal sizeOf corrected halfPoints rounded rest top treap outranksRest rank count leader nextLevel flatMap
-page-worked = refl
+page-worked salt = refl

@@ -9,9 +9,8 @@ use lib.ListN.{length}
 use Rattle.lists.specs.Lists.{All, upFrom, lies}
 use Rattle.paris_points.specs.Points.{corrected, halfPoints, sizeOf}
 use Rattle.paris_points.specs.Claims.{leastHalfPoints, greatestHalfPoints}
-use Rattle.priority.specs.Priority.{priorityOf}
 use Rattle.treap.specs.Levels.{rank, count}
-use Rattle.table.specs.Contents.{Contents, keysIn, measureIn}
+use Rattle.table.specs.Contents.{Contents, keysIn, priorityIn, measureIn}
 use Rattle.table.specs.Table.{Sound}
 use Rattle.text.specs.Ascii.{ascii}
 use Rattle.text.specs.Digits.{decimal}
@@ -25,15 +24,15 @@ pagesBytes n = headingBytes * pageCount n + suc keyCharacters * n
 
 -- A key's columns hold what they show: "rank (4), count (4), .. size (4, ..)"; the size is from 7.5 to 67.5, from 15 to 135 half points.
 pub record InColumns (c : Contents) (k : ℕ) : Type 0 where
-  pub rank-fits : length (decimal (rank (c .order) priorityOf (keysIn c) k)) ≤ columnWidth
-  pub count-fits : length (decimal (count (c .order) priorityOf (keysIn c) k)) ≤ columnWidth
+  pub rank-fits : length (decimal (rank (c .order) (priorityIn c) (keysIn c) k)) ≤ columnWidth
+  pub count-fits : length (decimal (count (c .order) (priorityIn c) (keysIn c) k)) ≤ columnWidth
   pub size-fits : length (sizeText (sizeOf (measureIn (c .entries) k))) ≤ columnWidth
   pub size-lies : measureIn (c .entries) k .length ≢ 0
       → lies leastHalfPoints greatestHalfPoints (halfPoints (corrected (measureIn (c .entries) k))) ≡ true
 
--- One key, of the size that document 02 gives for a t of 26,500.
-abbrev pub single : Contents
-single = record { order = 3; entries = record { key = 5; measure = record { length = 26750; correction = negℤ (pos 250) } } ∷ [] }
+-- One key, of the size that document 02 gives for a t of 26,500, under a salt.
+abbrev pub single : ℕ → Contents
+single salt = record { order = 3; salt = salt; entries = record { key = 5; measure = record { length = 26750; correction = negℤ (pos 250) } } ∷ [] }
 
 pub record Pages : Type 0 where
   -- "A key line is 48 characters and a line feed", for every key of every sound table
@@ -51,8 +50,8 @@ pub record Pages : Type 0 where
   -- every key is on one page, and the keys keep their order
   pub every-key : (keys : List ℕ) → flatMap (λ before. keysOn before keys) (upFrom 0 (pageCount (length keys))) ≡ keys
   -- "Only an empty library is one page with no key lines."
-  pub empty : (order : ℕ) → pagesOf (record { order = order; entries = [] }) ≡ ascii "PAGE 0001\n"
+  pub empty : (order salt : ℕ) → pagesOf (record { order = order; salt = salt; entries = [] }) ≡ ascii "PAGE 0001\n"
   -- 50 keys are one page, 51 two
   pub worked-counts : map pageCount (0 ∷ 1 ∷ 49 ∷ 50 ∷ 51 ∷ 100 ∷ 101 ∷ 4096 ∷ []) ≡ 1 ∷ 1 ∷ 1 ∷ 1 ∷ 2 ∷ 2 ∷ 3 ∷ 82 ∷ []
   -- the pages of one key
-  pub worked-page : pagesOf single ≡ ascii "PAGE 0001\n0000000000000005    0    1 0000000000000000 40.0\n"
+  pub worked-page : (salt : ℕ) → pagesOf (single salt) ≡ ascii "PAGE 0001\n0000000000000005    0    1 0000000000000000 40.0\n"

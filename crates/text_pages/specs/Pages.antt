@@ -1,4 +1,4 @@
--- The printed pages of an order and a set (document 02, N6). Assumes nothing.
+-- The printed pages of an order, a salt and a set (document 02, N6). Assumes nothing.
 use mathlib.Core.Bool.{cond}
 use mathlib.Core.List.{List, _++_, flatMap}
 use Prim.Native.Nat.{ℕ, suc, _+_, _*_}
@@ -6,9 +6,8 @@ use lib.Dec.{eqb}
 use lib.ListN.{length}
 use lib.Seq.{slice}
 use Rattle.lists.specs.Lists.{roundedUp, upFrom}
-use Rattle.priority.specs.Priority.{priorityOf}
 use Rattle.treap.specs.Levels.{rank, count, leader}
-use Rattle.table.specs.Contents.{Contents, keysIn, measureIn}
+use Rattle.table.specs.Contents.{Contents, keysIn, priorityIn, measureIn}
 use Rattle.paris_points.specs.Points.{sizeOf}
 use Rattle.text_page_lines.specs.PageLines.{headingLine, pageLine}
 
@@ -16,9 +15,9 @@ use Rattle.text_page_lines.specs.PageLines.{headingLine, pageLine}
 unfoldable pub lineOf : Contents → ℕ → List ℕ
 lineOf c k =
     pageLine k
-    (rank (c .order) priorityOf (keysIn c) k)
-    (count (c .order) priorityOf (keysIn c) k)
-    (leader (c .order) priorityOf (keysIn c) k)
+    (rank (c .order) (priorityIn c) (keysIn c) k)
+    (count (c .order) (priorityIn c) (keysIn c) k)
+    (leader (c .order) (priorityIn c) (keysIn c) k)
     (sizeOf (measureIn (c .entries) k))
 
 -- "Then 50 key lines, rising": the keys of a page, from how many pages come before it.

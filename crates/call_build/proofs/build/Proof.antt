@@ -28,6 +28,9 @@ module _ (p : tie.Else1) where
   abbrev order : ℕ
   order = start .args .order
 
+  abbrev salt : ℕ
+  salt = start .args .salt
+
   abbrev list : List ℕ
   list = start .args .list .now
 
@@ -73,7 +76,7 @@ slots-for-requires c κs = search needs
 returns : tie.Need-returns
 returns c =
     let args = c .before .before .before .before .before .args in
-    refused-length (args .table .now) (args .order) (args .list .now) (args .lengths .now) (args .corrections .now)
+    refused-length (args .table .now) (args .order) (args .salt) (args .list .now) (args .lengths .now) (args .corrections .now)
     (sym (c .before .slots-for .ensures) ∙ c .if1 .taken)
 
 is-new-order-requires : tie.Need-is-new-order-requires
@@ -82,7 +85,7 @@ is-new-order-requires c κs = search needs
 returns-2 : tie.Need-returns-2
 returns-2 c =
     let p = c .before .before in
-    refused-order (words p) (order p) (list p) (lengths p) (corrections p) (many p) (here p) (p .if1 .left)
+    refused-order (words p) (order p) (salt p) (list p) (lengths p) (corrections p) (many p) (here p) (p .if1 .left)
     (sym (c .before .is-new-order .ensures) ∙ not-true (c .before .is-new-order .result) (c .if2 .taken))
 
 is-rising-requires : tie.Need-is-rising-requires
@@ -92,7 +95,7 @@ returns-3 : tie.Need-returns-3
 returns-3 c =
     let q = c .before .before in
     let p = q .before .before in
-    refused-list (words p) (order p) (list p) (lengths p) (corrections p) (many p) (here p) (p .if1 .left) (right-order q)
+    refused-list (words p) (order p) (salt p) (list p) (lengths p) (corrections p) (many p) (here p) (p .if1 .left) (right-order q)
     (sym (c .before .is-rising .ensures) ∙ not-true (c .before .is-rising .result) (c .if3 .taken))
 
 are-measured-requires : tie.Need-are-measured-requires
@@ -102,14 +105,14 @@ returns-4 : tie.Need-returns-4
 returns-4 c =
     let r = c .before in
     let p = to-length r in
-    refused-measures (words p) (order p) (list p) (lengths p) (corrections p) (many p) (here p) (p .if1 .left) (right-order (to-order r)) (right-list (to-list r))
+    refused-measures (words p) (order p) (salt p) (list p) (lengths p) (corrections p) (many p) (here p) (p .if1 .left) (right-order (to-order r)) (right-list (to-list r))
     (told r false (not-true _ (c .if4 .taken)))
 
 returns-5 : tie.Need-returns-5
 returns-5 c =
     let r = c .before .before in
     let p = to-length r in
-    refused-many (words p) (order p) (list p) (lengths p) (corrections p) (many p) (here p) (p .if1 .left) (right-order (to-order r)) (right-list (to-list r))
+    refused-many (words p) (order p) (salt p) (list p) (lengths p) (corrections p) (many p) (here p) (p .if1 .left) (right-order (to-order r)) (right-list (to-list r))
     (right-measures (c .before)) (c .if5 .taken)
 
 write-requires : tie.Need-write-requires
@@ -119,7 +122,7 @@ write-requires c κs =
     let few = c .before .if5 .left in
     let right = slots-for-some (length (words p)) (λ e. p .if1 .left (here p ∙ e)) in
     let most : many p ≤ mostSlots = omega (arith, here p, right .within) in (
-      can-be-written (words p) (order p) (list p) (lengths p) (corrections p) (many p) (here p) (p .if1 .left) (right-order (to-order r)) (right-list (to-list r)) most few,
+      can-be-written (words p) (order p) (salt p) (list p) (lengths p) (corrections p) (many p) (here p) (p .if1 .left) (right-order (to-order r)) (right-list (to-list r)) most few,
       (
         right-measures (c .before .before),
         (omega (arith, here p, right .some), few, omega (arith, here p, right .long), most),
@@ -134,7 +137,7 @@ returns-6 c =
     let s = c .before .before .before .before .before in
     let r = s .before in
     let p = to-length r in
-    accepted (words p) (order p) (list p) (lengths p) (corrections p) (many p) (here p) (p .if1 .left) (right-order (to-order r)) (right-list (to-list r))
+    accepted (words p) (order p) (salt p) (list p) (lengths p) (corrections p) (many p) (here p) (p .if1 .left) (right-order (to-order r)) (right-list (to-list r))
     (right-measures s) (c .before .before .before .before .if5 .left) (c .before .before .write .last .1 .1 .1 .1 .1 .0) (c .before .before .write .ensures)
 
 pub build-spec : {M : Type 1} → statement M

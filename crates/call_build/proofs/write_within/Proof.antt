@@ -68,7 +68,7 @@ returns : tie.Need-returns
 returns c =
     let p = c .before .before .before .before .before .before .before in
     let start = begun p in
-    tags-written (keys start) (lengths start) (corrections start) (told start) (start .args .many) (start .args .order) (c .before .before .write .last .1 .1 .1 .1 .0)
+    tags-written (keys start) (lengths start) (corrections start) (told start) (start .args .many) (start .args .order) (start .args .salt) (c .before .before .write .last .1 .1 .1 .1 .0)
     (take (length (keys start)) (p .put-tags .last .1 .1 .0)) (first p) (c .before .before .write .ensures)
 
 pub write-within-spec : {M : Type 1} → statement M

@@ -32,16 +32,19 @@ keys-are p = tagged-keys (keys-in p) (tags-in p)
 slice-read-order : tie.Need-slice-read-order
 slice-read-order c = search needs
 
+slice-read-salt : tie.Need-slice-read-salt
+slice-read-salt c = search needs
+
 slice-aggregate-write : tie.Need-slice-aggregate-write
-slice-aggregate-write c = sym (length-take-le _ _ (c .before .before .before .before .before .pre .1 .3))
+slice-aggregate-write c = sym (length-take-le _ _ (c .before .before .before .before .before .before .pre .1 .3))
 
 slice-aggregate-write-2 : tie.Need-slice-aggregate-write-2
-slice-aggregate-write-2 c = sym (length-take-le _ _ (c .before .before .before .before .before .before .pre .1 .4))
+slice-aggregate-write-2 c = sym (length-take-le _ _ (c .before .before .before .before .before .before .before .pre .1 .4))
 
 write-requires : tie.Need-write-requires
 unfolding contentsOf
 write-requires c κs =
-    let start = c .before .before .before .before .before .before .before in
+    let start = c .before .before .before .before .before .before .before .before in
     let (some, most, long, fits, more, constants) = start .pre .1 in
     let valid = start .pre .0 .0 in (
       (subst (Keys _) (keys-are start) (valid-keys (start .args .many) (goal start) most valid), start .pre .0 .1),
@@ -54,7 +57,7 @@ same-length c = search needs
 returns : tie.Need-returns
 unfolding contentsOf
 returns c =
-    let start = c .before .before .before .before .before .before .before .before .before .before in
+    let start = c .before .before .before .before .before .before .before .before .before .before .before in
     let args = start .args in
     let pre = start .pre in
     let done = c .before .before .write in
@@ -70,6 +73,7 @@ rewrite-spec =
     tie.close
     (tie.spec
     slice-read-order
+    slice-read-salt
     slice-aggregate-write
     slice-aggregate-write-2
     write-requires

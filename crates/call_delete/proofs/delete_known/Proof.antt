@@ -16,13 +16,13 @@ use Rattle.call_delete.proofs.delete_known.Tie as tie
 
 -- ---- the table as it came
 abbrev begun : tie.After-holds → tie.Start
-begun p = p .before .before .before .before .before .before
+begun p = p .before .before .before .before .before .before .before
 
 abbrev key : tie.After-holds → ℕ
 key p = begun p .args .key
 
 told : (p : tie.After-holds) → Facts (begun p .args .many) (begun p .args .table .now) (begun p .args .keys .now) (begun p .args .tags .now)
-told p = facts _ _ _ _ (begun p .pre .0) (λ i. omega (arith, p .before .before .before .before .before .slice-known .given i))
+told p = facts _ _ _ _ (begun p .pre .0) (λ i. omega (arith, p .before .before .before .before .before .before .slice-known .given i))
 
 held : (p : tie.Else1) → member (key (p .before)) (keysIn (contentsOf (begun (p .before) .args .many) (begun (p .before) .args .table .now))) ≡ true
 held p = sym (p .before .holds .ensures) ∙ not-false (p .before .holds .result) (p .if1 .left)
@@ -34,8 +34,8 @@ held-at p = p .before .before .before .before .before .before
 out : (p : tie.After-take-out) → Removed (told (held-at p .before)) (key (held-at p .before)) (p .take-out .last .0) (p .take-out .last .1 .0)
 out p = record { keys-left = p .take-out .ensures .0; tags-left = p .take-out .ensures .1 }
 
-priority-from-requires : tie.Need-priority-from-requires
-priority-from-requires c κs = search needs
+priority-of-requires : tie.Need-priority-of-requires
+priority-of-requires c κs = search needs
 
 holds-requires : tie.Need-holds-requires
 holds-requires c κs = search needs
@@ -56,7 +56,7 @@ rank-of-requires c κs =
     let e = c .before .before in
     let q = e .before in
     let k = told q .known in
-    (k .some, k .most, k .long, k .sound, held e, q .before .before .priority-from .ensures)
+    (k .some, k .most, k .long, k .sound, held e, q .before .before .priority-of .ensures)
 
 take-out-requires : tie.Need-take-out-requires
 take-out-requires c κs =
@@ -105,7 +105,7 @@ pub delete-known-spec : {M : Type 1} → statement M
 delete-known-spec =
     tie.close
     (tie.spec
-    priority-from-requires
+    priority-of-requires
     holds-requires
     same-length
     returns

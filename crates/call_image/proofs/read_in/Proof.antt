@@ -15,6 +15,7 @@ use Rattle.table.proofs.Tagged.{tags-many}
 use Rattle.image.specs.Image.{readImage, isImage}
 use Rattle.image.specs.Layout.{IsByte}
 use Rattle.image.proofs.Judging.{is-image-valid}
+use Rattle.image_collect.proofs.Nodes.{header-within}
 use Rattle.image_recognize.proofs.Answers.{told-image, told-other, told-number, image-keys, image-beside, image-header}
 use Rattle.image_recognize.proofs.Recognizing.{shown-tagged}
 use Rattle.call_image.proofs.Reading.{refused-bytes, refused-many, accepted}
@@ -124,32 +125,38 @@ returns-2 c =
     refused-many (start .args .table .now) (bytes q) (start .args .many) (start .pre .0) (start .pre .1) (start .pre .2) (one p)
     (omega (arith, c .if1 .taken, number p))
 
+salt-shown-requires : tie.Need-salt-shown-requires
+salt-shown-requires c κs = let p = c .before .before in image-header (bytes (read-at p)) (valid p) (one p)
+
 get-requires : tie.Need-get-requires
-get-requires c κs = let p = c .before .before in (omega (arith, image-header (bytes (read-at p)) (valid p) (one p)), omega arith)
+get-requires c κs =
+    let p = c .before .before .before in
+    let b = bytes (read-at p) in
+    (omega (arith, image-header b (valid p) (one p), header-within b), omega arith)
 
 slice-reshare-prefix-write : tie.Need-slice-reshare-prefix-write
-slice-reshare-prefix-write c = inside (c .before .before .before)
+slice-reshare-prefix-write c = inside (c .before .before .before .before)
 
 slice-aggregate-write : tie.Need-slice-aggregate-write
-slice-aggregate-write c = sym (length-take-le _ _ (inside (c .before .before .before .before)))
+slice-aggregate-write c = sym (length-take-le _ _ (inside (c .before .before .before .before .before)))
 
 slice-reshare-prefix-write-2 : tie.Need-slice-reshare-prefix-write-2
-slice-reshare-prefix-write-2 c = tags-inside (c .before .before .before .before)
+slice-reshare-prefix-write-2 c = tags-inside (c .before .before .before .before .before)
 
 slice-aggregate-write-2 : tie.Need-slice-aggregate-write-2
-slice-aggregate-write-2 c = sym (length-take-le _ _ (tags-inside (c .before .before .before .before .before)))
+slice-aggregate-write-2 c = sym (length-take-le _ _ (tags-inside (c .before .before .before .before .before .before)))
 
 write-requires : tie.Need-write-requires
 write-requires c κs =
     let g = c .before .before .before in
-    let p = g .before .before .before in
+    let p = g .before .before .before .before in
     let q = read-at p in
     let start = begun q in (
       (
         image-keys (bytes q) (valid p) (g .get .result) (g .get .ensures) (take (size p) (listed p)) (taken p),
         image-beside (bytes q) (valid p) (take (size p) (listed p)) (take (size p) (tags p)) (taken p) (tags-taken p),
       ),
-      (start .pre .0, omega (arith, number p, ap length (taken p), g .before .if1 .left), start .pre .2, start .pre .1, start .pre .5),
+      (start .pre .0, omega (arith, number p, ap length (taken p), g .before .before .if1 .left), start .pre .2, start .pre .1, start .pre .5),
     )
 
 same-length-5 : tie.Need-same-length-5
@@ -165,15 +172,15 @@ returns-3 : tie.Need-returns-3
 returns-3 c =
     let w = c .before .before in
     let g = w .before .before .before .before in
-    let p = g .before .before .before in
+    let p = g .before .before .before .before in
     let q = read-at p in
     let start = begun q in
-    let made = tagged (g .get .result) (take (size p) (listed p)) (take (size p) (tags p)) in
+    let made = tagged (g .get .result) (g .before .salt-shown .result) (take (size p) (listed p)) (take (size p) (tags p)) in
     let same : made ≡ readImage (bytes q) =
-    (λ i. tagged (g .get .ensures i) (taken p i) (tags-taken p i)) ∙ shown-tagged (bytes q) (valid p .measures-right)
+    (λ i. tagged (g .get .ensures i) (g .before .salt-shown .ensures i) (taken p i) (tags-taken p i)) ∙ shown-tagged (bytes q) (valid p .measures-right)
     in
     accepted (start .args .table .now) (bytes q) (start .args .many) (start .pre .0) (start .pre .1) (start .pre .2) (one p)
-    (omega (arith, number p, g .before .if1 .left)) made same (w .write .last .1 .1 .1 .1 .0) (w .write .ensures)
+    (omega (arith, number p, g .before .before .if1 .left)) made same (w .write .last .1 .1 .1 .1 .0) (w .write .ensures)
 
 pub read-in-spec : {M : Type 1} → statement M
 read-in-spec =
@@ -188,6 +195,7 @@ read-in-spec =
     same-length-3
     same-length-4
     returns-2
+    salt-shown-requires
     get-requires
     slice-reshare-prefix-write
     slice-aggregate-write

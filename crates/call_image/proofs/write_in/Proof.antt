@@ -19,7 +19,7 @@ use Rattle.call_image.proofs.write_in.Statement.{statement}
 use Rattle.call_image.proofs.write_in.Tie as tie
 
 abbrev begun : tie.After-examine → tie.Start
-begun q = q .before .before .before .before .before .before .before .before
+begun q = q .before .before .before .before .before .before .before .before .before
 
 abbrev judged-at : tie.After-found → tie.After-examine
 judged-at p = p .before .before .before .before .before .before
@@ -56,6 +56,9 @@ beside p =
 
 shared-slice-read-order : tie.Need-shared-slice-read-order
 shared-slice-read-order c = search needs
+
+shared-slice-read-salt : tie.Need-shared-slice-read-salt
+shared-slice-read-salt c = search needs
 
 examine-requires : tie.Need-examine-requires
 examine-requires c κs = search needs
@@ -138,6 +141,7 @@ write-in-spec =
     tie.close
     (tie.spec
     shared-slice-read-order
+    shared-slice-read-salt
     examine-requires
     enum-known-found
     enum-told

@@ -12,14 +12,14 @@ use Rattle.table.specs.Table.{contentsOf}
 use Rattle.call_changes.specs.Known.{RoomFor}
 use Rattle.call_changes.proofs.Knowing.{Facts, facts}
 use Rattle.call_changes.proofs.Editing.{Put}
-use Rattle.call_insert.proofs.Inserting.{leaves-held, leaves-full, fits, can-be-written, then-held, leaves-joined}
+use Rattle.call_insert.proofs.Inserting.{leaves-held, leaves-full, fits, can-be-written, then-held, same-priority, leaves-joined}
 use borrow.Author.Needs.{needs}
 use Rattle.call_insert.proofs.insert_known.Statement.{statement}
 use Rattle.call_insert.proofs.insert_known.Tie as tie
 
 -- ---- the table as it came
 abbrev begun : tie.After-holds → tie.Start
-begun p = p .before .before .before .before .before .before
+begun p = p .before .before .before .before .before .before .before
 
 abbrev key : tie.After-holds → ℕ
 key p = begun p .args .key
@@ -28,7 +28,7 @@ abbrev tag : tie.After-holds → ℕ
 tag p = begun p .args .tag
 
 told : (p : tie.After-holds) → Facts (begun p .args .many) (begun p .args .table .now) (begun p .args .keys .now) (begun p .args .tags .now)
-told p = facts _ _ _ _ (begun p .pre .0) (λ i. omega (arith, p .before .before .before .before .before .slice-known .given i))
+told p = facts _ _ _ _ (begun p .pre .0) (λ i. omega (arith, p .before .before .before .before .before .before .slice-known .given i))
 
 right : (p : tie.After-holds) → IsKey (key p)
 right p = (begun p .pre .1 .0, omega (arith, begun p .fits .key))
@@ -56,8 +56,8 @@ room-at p = p .before .before .before
 put : (p : tie.After-put-in) → Put (told (asked-at (room-at p))) (key (asked-at (room-at p))) (tag (asked-at (room-at p))) (p .put-in .last .0) (p .put-in .last .1 .0)
 put p = record { keys-put = p .put-in .ensures .0; tags-put = p .put-in .ensures .1 }
 
-priority-from-requires : tie.Need-priority-from-requires
-priority-from-requires c κs = search needs
+priority-of-requires : tie.Need-priority-of-requires
+priority-of-requires c κs = search needs
 
 holds-requires : tie.Need-holds-requires
 holds-requires c κs = search needs
@@ -124,7 +124,7 @@ rank-of-requires c κs =
       k .long,
       k .sound,
       then-held (told q) (key q) (tag q) (right q) (begun q .pre .1 .1) (absent (absent-at e)) (e .if2 .left) (p .put-in .last .0) (p .put-in .last .1 .0) (put p) (w .rewrite .last .0) (w .rewrite .ensures .0),
-      q .before .before .priority-from .ensures,
+      same-priority (told q) (key q) (tag q) (right q) (begun q .pre .1 .1) (absent (absent-at e)) (e .if2 .left) (p .put-in .last .0) (p .put-in .last .1 .0) (put p) (w .rewrite .last .0) (w .rewrite .ensures .0) _ (q .before .before .priority-of .ensures),
     )
 
 same-length-3 : tie.Need-same-length-3
@@ -149,7 +149,7 @@ pub insert-known-spec : {M : Type 1} → statement M
 insert-known-spec =
     tie.close
     (tie.spec
-    priority-from-requires
+    priority-of-requires
     holds-requires
     same-length
     returns

@@ -6,7 +6,7 @@ use native.Mathlib.Omega.{arith}
 use lib.ListN.{length, getD, take}
 use lib.Seq.{length-take-le}
 use Rattle.lists.specs.Lists.{overwrite}
-use Rattle.table.specs.Layout.{orderWord}
+use Rattle.table.specs.Layout.{orderWord, saltWord}
 use Rattle.table.specs.Tags.{tagged, Beside}
 use Rattle.table.specs.Table.{contentsOf}
 use Rattle.table.proofs.Tagged.{beside-of}
@@ -22,7 +22,7 @@ use Rattle.call_pages.proofs.pages_in.Statement.{statement}
 use Rattle.call_pages.proofs.pages_in.Tie as tie
 
 abbrev begun : tie.After-examine → tie.Start
-begun q = q .before .before .before .before .before .before .before .before
+begun q = q .before .before .before .before .before .before .before .before .before
 
 abbrev judged-at : tie.After-found → tie.After-examine
 judged-at p = p .before .before .before .before .before .before
@@ -61,8 +61,8 @@ beside p =
     let words = start .args .table .now in
     beside-of (contentsOf many words .entries) (sound-measures many words (found p .sound)) (found p .keys-there .taken) (found p .tags-there .taken)
 
--- They are the pages of the order word, the keys and their tags.
-text-is : (p : tie.After-found) → text p ≡ pagesOf (tagged (getD (begun (judged-at p) .args .table .now) orderWord 0) (take (size p) (listed p)) (take (size p) (tags-listed p)))
+-- They are the pages of the order word, the salt word, the keys and their tags.
+text-is : (p : tie.After-found) → text p ≡ pagesOf (tagged (getD (begun (judged-at p) .args .table .now) orderWord 0) (getD (begun (judged-at p) .args .table .now) saltWord 0) (take (size p) (listed p)) (take (size p) (tags-listed p)))
 text-is p =
     let start = begun (judged-at p) in
     pages-tagged (start .args .many) (start .args .table .now) (found p .sound) (found p .keys-there .taken) (found p .tags-there .taken)
@@ -79,6 +79,9 @@ room e = omega (arith, e .if1 .left, size-is (e .before))
 
 shared-slice-read-order : tie.Need-shared-slice-read-order
 shared-slice-read-order c = search needs
+
+shared-slice-read-salt : tie.Need-shared-slice-read-salt
+shared-slice-read-salt c = search needs
 
 examine-requires : tie.Need-examine-requires
 examine-requires c κs = search needs
@@ -167,6 +170,7 @@ pages-in-spec =
     tie.close
     (tie.spec
     shared-slice-read-order
+    shared-slice-read-salt
     examine-requires
     enum-known-found
     enum-told

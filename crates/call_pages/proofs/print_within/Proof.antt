@@ -25,11 +25,11 @@ counts p = p .prepare .last .1 .1 .1 .1 .1 .1 .1 .1 .0
 abbrev leaders : tie.After-prepare → List ℕ
 leaders p = p .prepare .last .1 .1 .1 .1 .1 .1 .1 .1 .1 .0
 
-stands : (p : tie.After-prepare) → StandingsOf (begun p .args .order) (begun p .args .keys .now) (ranks p) (counts p) (leaders p)
+stands : (p : tie.After-prepare) → StandingsOf (begun p .args .order) (begun p .args .salt) (begun p .args .keys .now) (ranks p) (counts p) (leaders p)
 stands p =
     let start = begun p in
     let keys = start .pre .0 .0 in
-    standings (start .args .order) (keys .wide) (start .args .keys .now) (p .prepare .last .1 .1 .1 .1 .1 .0) (p .prepare .last .1 .1 .1 .1 .1 .1 .0) (ranks p) (counts p) (leaders p)
+    standings (start .args .order) (start .args .salt) (keys .wide) (start .args .keys .now) (p .prepare .last .1 .1 .1 .1 .1 .0) (p .prepare .last .1 .1 .1 .1 .1 .1 .0) (ranks p) (counts p) (leaders p)
     (take (start .args .many) (p .prepare .last .1 .1 .1 .1 .1 .1 .1 .1 .1 .1 .0)) (p .prepare .result) (p .prepare .ensures .0) (keys .rising) (keys .some)
 
 prepare-requires : tie.Need-prepare-requires
@@ -39,8 +39,8 @@ write-requires : tie.Need-write-requires
 write-requires c κs =
     let p = c .before .before .before .before .before .before .before .before .before .before .before .before .before .before .before .before .before .before .before .before in
     let start = begun p in (
-      lists-printable (start .args .order) (start .pre .0 .0) (start .pre .0 .1) (stands p),
-      omega (arith, ap length (text-shown (start .args .order) (start .pre .0 .0) (start .pre .0 .1) (stands p)), start .pre .0 .2),
+      lists-printable (start .args .order) (start .args .salt) (start .pre .0 .0) (start .pre .0 .1) (stands p),
+      omega (arith, ap length (text-shown (start .args .order) (start .args .salt) (start .pre .0 .0) (start .pre .0 .1) (stands p)), start .pre .0 .2),
     )
 
 same-length : tie.Need-same-length
@@ -76,7 +76,7 @@ returns c =
     let start = begun p in
     let call = c .before .before .write in
     subst (λ (text : List ℕ). Written (start .args .output .now) 0 text (call .last .1 .1 .1 .1 .1 .0) (call .result))
-    (sym (text-shown (start .args .order) (start .pre .0 .0) (start .pre .0 .1) (stands p))) (call .ensures)
+    (sym (text-shown (start .args .order) (start .args .salt) (start .pre .0 .0) (start .pre .0 .1) (stands p))) (call .ensures)
 
 pub print-within-spec : {M : Type 1} → statement M
 print-within-spec =

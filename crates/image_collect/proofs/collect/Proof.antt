@@ -11,11 +11,11 @@ use Rattle.lists.proofs.Tests.{true-or-false}
 use Rattle.treap.specs.Image.{countBytes}
 use Rattle.table.specs.Contents.{entryKeys}
 use Rattle.table.specs.Tags.{entryTags}
-use Rattle.image.specs.Layout.{headerBytes, blockBytes, heldAt}
-use Rattle.image.specs.Image.{fieldAt, nodeEntries, nodesSpan}
+use Rattle.image.specs.Layout.{blockBytes, heldAt}
+use Rattle.image.specs.Image.{headerSpan, fieldAt, nodeEntries, nodesSpan}
 use Rattle.image_collect.specs.declared.Collected.the-variants.{Broken}
 use Rattle.image_collect.specs.Reading.{areNodes, checked, blocksOf, entriesOf, readable, collected}
-use Rattle.image_collect.proofs.Nodes.{nodes-inside}
+use Rattle.image_collect.proofs.Nodes.{header-within, nodes-inside}
 use Rattle.image_collect.proofs.Passing.{from-index, told-nodes, told-broken, told-end}
 use Rattle.image_collect.proofs.Walking.{Walked, broken, no-header, walked-none, keys-size, tags-size, short, no-nodes, too-many, walked-more, counted, keys-collected, tags-collected}
 use borrow.Author.Needs.{needs}
@@ -23,14 +23,14 @@ use Rattle.image_collect.proofs.collect.Statement.{statement}
 use Rattle.image_collect.proofs.collect.Tie as tie
 
 abbrev Inv-loop : tie.InvT-loop
-Inv-loop image keys₀ tags₀ size blocks at₀ n₀ counter₀ keys tags at n counter = Walked image keys₀ tags₀ keys tags at n counter
+Inv-loop image keys₀ tags₀ size head blocks at₀ n₀ counter₀ keys tags at n counter = Walked image keys₀ tags₀ keys tags at n counter
 
 abbrev μ-loop : tie.MeasureT-loop
-μ-loop image keys₀ tags₀ size blocks at₀ n₀ counter₀ keys tags at n counter = blocks - counter
+μ-loop image keys₀ tags₀ size head blocks at₀ n₀ counter₀ keys tags at n counter = blocks - counter
 
 -- ---- the bytes, the lists lent, and what the header says
 abbrev begun : tie.At-loop Inv-loop μ-loop → tie.Start Inv-loop μ-loop
-begun p = p .before .before .before .before .before .before
+begun p = p .before .before .before .before .before .before .before
 
 abbrev bytes : tie.At-loop Inv-loop μ-loop → List ℕ
 bytes p = begun p .args .image .now
@@ -41,8 +41,8 @@ keys-lent p = begun p .args .keys .now
 abbrev tags-lent : tie.At-loop Inv-loop μ-loop → List ℕ
 tags-lent p = begun p .args .tags .now
 
-header : (p : tie.At-loop Inv-loop μ-loop) → headerBytes ≤ length (bytes p)
-header p = p .before .before .if1 .left
+header : (p : tie.At-loop Inv-loop μ-loop) → headerSpan (bytes p) ≤ length (bytes p)
+header p = omega (arith, p .before .before .if1 .left, p .before .before .before .header-span .ensures)
 
 blocks-is : (p : tie.At-loop Inv-loop μ-loop) → p .before .get .result ≡ blocksOf (bytes p)
 unfolding blocksOf
@@ -142,18 +142,24 @@ stop words keys tags keys-then tags-then e = (
   ((λ t. absurd (true-or-false (readable (length keys) words) t e)), λ t. absurd (true-or-false (readable (length keys) words) t e)),
 )
 
+header-span-requires : tie.Need-header-span-requires Inv-loop μ-loop
+header-span-requires c κs = search needs
+
 returns : tie.Need-returns Inv-loop μ-loop
 returns c =
-    let args = c .before .before .before .before .args in
-    stop (args .image .now) (args .keys .now) (args .tags .now) (args .keys .now) (args .tags .now) (no-header (args .image .now) (args .keys .now) (args .tags .now) (c .if1 .taken))
+    let args = c .before .before .before .before .before .args in
+    stop (args .image .now) (args .keys .now) (args .tags .now) (args .keys .now) (args .tags .now) (no-header (args .image .now) (args .keys .now) (args .tags .now) (omega (arith, c .if1 .taken, c .before .header-span .ensures)))
 
 get-requires : tie.Need-get-requires Inv-loop μ-loop
-get-requires c κs = (omega (arith, c .if1 .left), omega arith)
+get-requires c κs =
+    let bytes = c .before .before .before .before .before .args .image .now in
+    (omega (arith, c .if1 .left, c .before .header-span .ensures, header-within bytes), omega arith)
 
 loop-holds : tie.Need-loop-holds Inv-loop μ-loop
 loop-holds c =
-    let start = c .before .before .before .before .before in
-    walked-none (start .args .image .now) (start .args .keys .now) (start .args .tags .now) (c .before .if1 .left) (start .pre)
+    let start = c .before .before .before .before .before .before in
+    let head = c .before .before .header-span in
+    walked-none (start .args .image .now) (start .args .keys .now) (start .args .tags .now) (omega (arith, c .before .if1 .left, head .ensures)) (start .pre) (head .result) (head .ensures)
 
 sub-if2 : tie.Need-sub-if2 Inv-loop μ-loop
 sub-if2 c = c .before .loop .inv .within
@@ -283,6 +289,7 @@ collect-spec =
     (tie.spec
     Inv-loop
     μ-loop
+    header-span-requires
     returns
     get-requires
     loop-holds

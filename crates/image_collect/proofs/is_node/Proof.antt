@@ -4,12 +4,12 @@ use mathlib.Core.List.{List}
 use mathlib.Core.Path.{_≡_, sym, ap₂, _∙_}
 use Prim.Native.Nat.{ℕ, _≤_}
 use native.Mathlib.Omega.{arith}
-use lib.ListN.{length, getD}
-use borrow.Author.Tests.{not-true, not-false, ne-eqb}
+use lib.ListN.{length}
+use borrow.Author.Tests.{not-true, not-false}
 use Rattle.measure.specs.Tag.{isStored}
 use Rattle.image.specs.Layout.{nodeBytes}
 use Rattle.image.specs.Image.{isMeasured}
-use Rattle.image_collect.proofs.Nodes.{mark-first, mark-second, span-least, span-measured, node-short, node-plain, node-measured}
+use Rattle.image_collect.proofs.Nodes.{span-least, span-measured, node-short, node-plain, node-measured}
 use borrow.Author.Needs.{needs}
 use Rattle.image_collect.proofs.is_node.Statement.{statement}
 use Rattle.image_collect.proofs.is_node.Tie as tie
@@ -33,31 +33,22 @@ returns c = let node = c .before .before .args .node .now in node-short node (om
 is-measured-requires : tie.Need-is-measured-requires
 is-measured-requires c κs = search needs
 
-shared-slice-read-if3 : tie.Need-shared-slice-read-if3
-shared-slice-read-if3 c = search needs
-
-shared-slice-read-result : tie.Need-shared-slice-read-result
-shared-slice-read-result c = search needs
+is-marked-requires : tie.Need-is-marked-requires
+is-marked-requires c κs = search needs
 
 returns-2 : tie.Need-returns-2
 returns-2 c =
-    let t = c .before .before .before in
+    let t = c .before in
     let p = t .before in
-    mark-second 78 (bytes p) (long p) (c .before .if3 .taken) ∙ node-plain (bytes p) (long p) (plain t)
+    c .is-marked .ensures ∙ node-plain (bytes p) (long p) (plain t)
+
+add-if3 : tie.Need-add-if3
+add-if3 c = search needs
 
 returns-3 : tie.Need-returns-3
 returns-3 c =
-    let t = c .before .before in
-    let p = t .before in
-    ne-eqb (getD (bytes p) 0 0) 76 (c .if3 .left) ∙ mark-first 78 (bytes p) (long p) (c .if3 .left) ∙ node-plain (bytes p) (long p) (plain t)
-
-add-if4 : tie.Need-add-if4
-add-if4 c = search needs
-
-returns-4 : tie.Need-returns-4
-returns-4 c =
     let e = c .before in
-    node-short (bytes (e .before)) (omega (arith, c .if4 .taken, span-measured (bytes (e .before)) (measured e)))
+    node-short (bytes (e .before)) (omega (arith, c .if3 .taken, span-measured (bytes (e .before)) (measured e)))
 
 get-requires : tie.Need-get-requires
 get-requires c κs = search needs
@@ -68,13 +59,13 @@ get-requires-2 c κs = search needs
 is-stored-requires : tie.Need-is-stored-requires
 is-stored-requires c κs = search needs
 
-returns-5 : tie.Need-returns-5
-returns-5 c =
+returns-4 : tie.Need-returns-4
+returns-4 c =
     let g = c .before in
     let e = g .before .before .before in
     c .is-stored .ensures
     ∙ ap₂ isStored (g .before .get .ensures) (g .get2 .ensures)
-    ∙ node-measured (bytes (e .before)) (g .before .before .if4 .left) (measured e)
+    ∙ node-measured (bytes (e .before)) (g .before .before .if3 .left) (measured e)
 
 pub is-node-spec : {M : Type 1} → statement M
 is-node-spec =
@@ -82,13 +73,11 @@ is-node-spec =
     (tie.spec
     returns
     is-measured-requires
-    shared-slice-read-if3
-    shared-slice-read-result
+    is-marked-requires
     returns-2
+    add-if3
     returns-3
-    add-if4
-    returns-4
     get-requires
     get-requires-2
     is-stored-requires
-    returns-5)
+    returns-4)

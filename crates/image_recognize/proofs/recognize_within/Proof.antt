@@ -17,9 +17,10 @@ use Rattle.table.proofs.Tagged.{beside-of}
 use Rattle.table_decode.proofs.SortedInPlace.{Collected}
 use Rattle.table_prepare.specs.Prepared.{Keys}
 use Rattle.image_parts.specs.Written.{writtenTo}
-use Rattle.image.specs.Layout.{headerBytes, IsByte}
-use Rattle.image.specs.Image.{imageOf, readImage}
+use Rattle.image.specs.Layout.{IsByte}
+use Rattle.image.specs.Image.{imageOf, headerSpan, saltShown, readImage}
 use Rattle.image_collect.specs.Reading.{readable, entriesOf, RoomFor}
+use Rattle.image_collect.proofs.Nodes.{header-within}
 use Rattle.image_collect.proofs.Readable.{unreadable, readable-header, readable-few, readable-fits}
 use Rattle.image_recognize.proofs.Recognizing.{orderShown, shown-right, shown-tagged, stop, wrong-order, not-rising, wrong-length, differs, can-be-written, is-one, accepted, told-readable, told-broken, told-number, shown-size, tags-size, keys-sorted, tags-sorted, written-over}
 use borrow.Author.Needs.{needs}
@@ -79,7 +80,7 @@ fits p room enough =
     let q = read-at p in
     omega (arith, number p, readable-fits (length (lent q)) (bytes q) (was-readable p) room (omega (arith, begun q .pre .0 .0)) enough)
 
-has-header : (p : tie.After-found) → headerBytes ≤ length (bytes (read-at p))
+has-header : (p : tie.After-found) → headerSpan (bytes (read-at p)) ≤ length (bytes (read-at p))
 has-header p = readable-header (length (lent (read-at p))) (bytes (read-at p)) (was-readable p)
 
 right : (p : tie.After-found) → All (λ e. rightMeasure e ≡ true) (readImage (bytes (read-at p)) .entries)
@@ -87,7 +88,7 @@ right p = shown-right (bytes (read-at p)) (length (lent (read-at p))) (was-reada
 
 -- ---- where the order is one
 abbrev found-at : tie.Else1 → tie.After-found
-found-at p = p .before .before .before .before
+found-at p = p .before .before .before .before .before
 
 order-right : (p : tie.Else1) → lies leastOrder greatestOrder (orderShown (bytes (read-at (found-at p)))) ≡ true
 order-right p =
@@ -196,13 +197,17 @@ copied w = w .write .last .1 .1 .1 .0
 abbrev order-got : tie.After-write → ℕ
 order-got w = ordered-at (sorted-at (risen-at w)) .before .before .get .result
 
+abbrev salt-got : tie.After-write → ℕ
+salt-got w = ordered-at (sorted-at (risen-at w)) .before .before .before .salt-shown .result
+
 drawn : (w : tie.After-write)
-    → imageOf (tagged (order-got w) (take (size (there w)) (sorted (sorted-at (risen-at w)))) (take (size (there w)) (sorted-tags (sorted-at (risen-at w)))))
+    → imageOf (tagged (order-got w) (salt-got w) (take (size (there w)) (sorted (sorted-at (risen-at w)))) (take (size (there w)) (sorted-tags (sorted-at (risen-at w)))))
     ≡ imageOf (readImage (bytes (read-at (there w))))
 drawn w =
     let b = bytes (read-at (there w)) in
-    ap (λ (order : ℕ). imageOf (tagged order (take (size (there w)) (sorted (sorted-at (risen-at w)))) (take (size (there w)) (sorted-tags (sorted-at (risen-at w)))))) (ordered-at (sorted-at (risen-at w)) .before .before .get .ensures)
-    ∙ ap₂ (λ (keys tags : List ℕ). imageOf (tagged (orderShown b) keys tags)) (taken (sorted-at (risen-at w))) (tags-taken (risen-at w))
+    ap₂ (λ (order salt : ℕ). imageOf (tagged order salt (take (size (there w)) (sorted (sorted-at (risen-at w)))) (take (size (there w)) (sorted-tags (sorted-at (risen-at w))))))
+    (ordered-at (sorted-at (risen-at w)) .before .before .get .ensures) (ordered-at (sorted-at (risen-at w)) .before .before .before .salt-shown .ensures)
+    ∙ ap₂ (λ (keys tags : List ℕ). imageOf (tagged (orderShown b) (saltShown b) keys tags)) (taken (sorted-at (risen-at w))) (tags-taken (risen-at w))
     ∙ ap imageOf (shown-tagged b (right (there w)))
 
 written-size : (w : tie.After-write) → w .write .result ≡ length (imageOf (readImage (bytes (read-at (there w)))))
@@ -263,8 +268,13 @@ returns c =
     (unreadable (length (lent q)) (bytes q) (λ n few h. omega (arith, few, begun q .pre .0 .0)) (byte-sized q) lacking)
     (lent q) (lent-tags q) (collected-keys q) (collected-tags q)
 
+salt-shown-requires : tie.Need-salt-shown-requires
+salt-shown-requires c κs = has-header (c .before)
+
 get-requires : tie.Need-get-requires
-get-requires c κs = (omega (arith, has-header (c .before)), omega arith)
+get-requires c κs =
+    let p = c .before .before in
+    (omega (arith, has-header p, header-within (bytes (read-at p))), omega arith)
 
 is-within-requires : tie.Need-is-within-requires
 is-within-requires c κs = search needs
@@ -278,7 +288,7 @@ same-length-4 c = search needs
 returns-2 : tie.Need-returns-2
 returns-2 c =
     let w = c .before in
-    let q = read-at (w .before .before .before) in
+    let q = read-at (w .before .before .before .before) in
     stop (bytes q)
     (wrong-order (bytes q)
     (ap (lies leastOrder greatestOrder) (sym (w .before .get .ensures)) ∙ sym (w .is-within .ensures) ∙ not-true (w .is-within .result) (c .if1 .taken)))
@@ -366,10 +376,10 @@ same-length-13 : tie.Need-same-length-13
 same-length-13 c = search needs
 
 same-length-14 : tie.Need-same-length-14
-same-length-14 c = search needs
+same-length-14 c = keys-kept (sorted-at (risen-at (c .before .before .before)))
 
 same-length-15 : tie.Need-same-length-15
-same-length-15 c = search needs
+same-length-15 c = tags-kept (risen-at (c .before .before .before) .before)
 
 returns-4 : tie.Need-returns-4
 returns-4 c =
@@ -452,6 +462,7 @@ recognize-within-spec =
     same-length
     same-length-2
     returns
+    salt-shown-requires
     get-requires
     is-within-requires
     same-length-3

@@ -4,7 +4,7 @@ use mathlib.Core.Path.{_≡_, sym, _∙_, subst}
 use Prim.Native.Nat.{ℕ, _≤_}
 use native.Mathlib.Omega.{arith}
 use lib.ListN.{length, take, length-map}
-use Rattle.priority.specs.Priority.{priorityOf}
+use Rattle.priority.specs.Priority.{priorityWith}
 use Rattle.sorting.specs.ByWeight.{byWeight}
 use Rattle.sorting.proofs.ByWeight.{byWeight-length}
 use Rattle.treap.specs.Treap.{top}
@@ -23,6 +23,9 @@ begun p = p .before .before .before .before .before .before .before .before .bef
 abbrev keys : tie.After-prioritize → List ℕ
 keys p = begun p .args .keys .now
 
+abbrev salt : tie.After-prioritize → ℕ
+salt p = begun p .args .salt
+
 abbrev priorities : tie.After-prioritize → List ℕ
 priorities p = p .prioritize .last .1 .0
 
@@ -30,17 +33,17 @@ abbrev ranking : tie.After-prioritize → List ℕ
 ranking p = p .prioritize .last .1 .1 .0
 
 as-many : (p : tie.After-prioritize) → length (take (length (keys p)) (priorities p)) ≡ length (keys p)
-as-many p = many-weights (keys p) (priorities p) (p .prioritize .ensures .0)
+as-many p = many-weights (salt p) (keys p) (priorities p) (p .prioritize .ensures .0)
 
 ranking-room : (p : tie.After-prioritize) → length (keys p) ≤ length (ranking p)
 ranking-room p =
-    room (ranking p) (byWeight (map priorityOf (keys p))) (length (keys p)) (p .prioritize .ensures .1)
-    (byWeight-length (map priorityOf (keys p)) ∙ length-map (keys p) priorityOf)
+    room (ranking p) (byWeight (map (priorityWith (salt p)) (keys p))) (length (keys p)) (p .prioritize .ensures .1)
+    (byWeight-length (map (priorityWith (salt p)) (keys p)) ∙ length-map (keys p) (priorityWith (salt p)))
 
 in-order : (p : tie.After-prioritize) → InOrder (take (length (keys p)) (priorities p)) (take (length (take (length (keys p)) (priorities p))) (ranking p))
 in-order p =
     subst (λ (m : ℕ). InOrder (take (length (keys p)) (priorities p)) (take m (ranking p))) (sym (as-many p))
-    (ranking-in-order (keys p) (priorities p) (p .prioritize .ensures .0) (ranking p) (p .prioritize .ensures .1))
+    (ranking-in-order (salt p) (keys p) (priorities p) (p .prioritize .ensures .0) (ranking p) (p .prioritize .ensures .1))
 
 -- ---- the columns
 abbrev ranked-at : tie.After-fill → tie.After-prioritize
@@ -49,15 +52,15 @@ ranked-at f = f .before .before .before .before .before .before .before .before 
 abbrev order : tie.After-fill → ℕ
 order f = begun (ranked-at f) .args .order
 
-filled : (f : tie.After-fill) → Filled (order f) (map priorityOf (keys (ranked-at f))) (f .fill .last .1 .1 .1 .0) (f .fill .last .1 .1 .1 .1 .0) (f .fill .last .1 .1 .1 .1 .1 .0) (f .fill .last .1 .1 .1 .1 .1 .1 .0) (f .fill .last .1 .1 .1 .1 .1 .1 .1 .0)
+filled : (f : tie.After-fill) → Filled (order f) (map (priorityWith (salt (ranked-at f))) (keys (ranked-at f))) (f .fill .last .1 .1 .1 .0) (f .fill .last .1 .1 .1 .1 .0) (f .fill .last .1 .1 .1 .1 .1 .0) (f .fill .last .1 .1 .1 .1 .1 .1 .0) (f .fill .last .1 .1 .1 .1 .1 .1 .1 .0)
 filled f =
     let p = ranked-at f in
-    filled-from (order f) (keys p) (priorities p) (p .prioritize .ensures .0) _ _ _ _ _ (f .fill .ensures .1)
+    filled-from (order f) (salt p) (keys p) (priorities p) (p .prioritize .ensures .0) _ _ _ _ _ (f .fill .ensures .1)
 
-root-is : (f : tie.After-fill) → f .fill .result ≡ top (weightAt (map priorityOf (keys (ranked-at f)))) (positions (length (keys (ranked-at f))))
+root-is : (f : tie.After-fill) → f .fill .result ≡ top (weightAt (map (priorityWith (salt (ranked-at f))) (keys (ranked-at f)))) (positions (length (keys (ranked-at f))))
 root-is f =
     let p = ranked-at f in
-    root-from (order f) (keys p) (priorities p) (p .prioritize .ensures .0) (f .fill .result) (f .fill .ensures .0)
+    root-from (order f) (salt p) (keys p) (priorities p) (p .prioritize .ensures .0) (f .fill .result) (f .fill .ensures .0)
 
 prioritize-requires : tie.Need-prioritize-requires
 prioritize-requires c κs = search needs
@@ -81,7 +84,7 @@ weigh-requires : tie.Need-weigh-requires
 weigh-requires c κs =
     let f = c .before .before .before .before .before .before .before .before .before .before .before .before .before in
     let p = ranked-at f in
-    (ranked (order f) (keys p) (begun p .pre .0) _ _ _ _ _ (filled f) (f .fill .result) (root-is f), omega (arith, begun p .pre .1 .0 .0, c .before .before .before .before .before .before .before .before .before .before .before .before .before .before .before .before .before .before .before .before .before .before .before .before .before .before .weights .given))
+    (ranked (order f) (salt p) (keys p) (begun p .pre .0) _ _ _ _ _ (filled f) (f .fill .result) (root-is f), omega (arith, begun p .pre .1 .0 .0, c .before .before .before .before .before .before .before .before .before .before .before .before .before .before .before .before .before .before .before .before .before .before .before .before .before .before .weights .given))
 
 by-weight-requires : tie.Need-by-weight-requires
 by-weight-requires c κs =
@@ -118,7 +121,7 @@ returns : tie.Need-returns
 returns c =
     let f = c .before .before .before .before .before .before .before .before .before .before .before .before .before .before .before .before .before .before .before .before .before .before .before .before in
     let p = ranked-at f in
-    arranged-from (order f) (keys p) _ _ _ _ _ (f .fill .result) (root-is f) (filled f) _ (priorities p) _ (ranking p) (c .before .before .before .before .before .before .before .before .before .before .weigh .ensures) (c .before .before .before .before .by-weight .ensures)
+    arranged-from (order f) (salt p) (keys p) _ _ _ _ _ (f .fill .result) (root-is f) (filled f) _ (priorities p) _ (ranking p) (c .before .before .before .before .before .before .before .before .before .before .weigh .ensures) (c .before .before .before .before .by-weight .ensures)
 
 pub arrange-spec : {M : Type 1} → statement M
 arrange-spec =

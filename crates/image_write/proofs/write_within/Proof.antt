@@ -18,6 +18,9 @@ begun a = a .before .before .before .before .before .before .before .before .bef
 abbrev order : tie.After-arrange → ℕ
 order a = begun a .args .order
 
+abbrev salt : tie.After-arrange → ℕ
+salt a = begun a .args .salt
+
 abbrev keys : tie.After-arrange → List ℕ
 keys a = begun a .args .keys .now
 
@@ -31,10 +34,10 @@ abbrev sorted : tie.After-arrange → List ℕ
 sorted a = a .arrange .last .1 .1 .1 .0
 
 many-weights : (a : tie.After-arrange) → length (take (length (keys a)) (weights a)) ≡ length (keys a)
-many-weights a = as-many-weights (order a) (keys a) (weights a) (sorted a) _ _ _ _ _ (a .arrange .result) (a .arrange .ensures)
+many-weights a = as-many-weights (order a) (salt a) (keys a) (weights a) (sorted a) _ _ _ _ _ (a .arrange .result) (a .arrange .ensures)
 
 many-sorted : (a : tie.After-arrange) → length (take (length (keys a)) (sorted a)) ≡ length (keys a)
-many-sorted a = as-many-sorted (order a) (keys a) (weights a) (sorted a) _ _ _ _ _ (a .arrange .result) (a .arrange .ensures)
+many-sorted a = as-many-sorted (order a) (salt a) (keys a) (weights a) (sorted a) _ _ _ _ _ (a .arrange .result) (a .arrange .ensures)
 
 arrange-requires : tie.Need-arrange-requires
 arrange-requires c κs =
@@ -58,10 +61,10 @@ emit-requires c κs =
     let a = c .before .before .before .before .before .before .before .before .before .before .before .before .before .before .before .before .before .before .before .before .before .before .before .before in
     let good = begun a .pre .0 .0 in
     let made = a .arrange .ensures in (
-      listed (order a) (keys a) good _ _ _ _ _ (made .filled) (tags a) (begun a .pre .0 .1 .as-many),
+      listed (order a) (salt a) (keys a) good _ _ _ _ _ (made .filled) (tags a) (begun a .pre .0 .1 .as-many),
       (
-        ranked (order a) (keys a) good _ _ _ _ _ (made .filled) (a .arrange .result) (made .root-is),
-        (many-weights a, many-sorted a, sorted-within (order a) (keys a) (weights a) (sorted a) _ _ _ _ _ (a .arrange .result) made),
+        ranked (order a) (salt a) (keys a) good _ _ _ _ _ (made .filled) (a .arrange .result) (made .root-is),
+        (many-weights a, many-sorted a, sorted-within (order a) (salt a) (keys a) (weights a) (sorted a) _ _ _ _ _ (a .arrange .result) made),
       ),
     )
 
@@ -95,7 +98,7 @@ same-length-9 c = search needs
 returns : tie.Need-returns
 returns c =
     let a = c .before .before .before .before .before .before .before .before .before .before .before .before .before .before .before .before .before .before .before .before .before .before .before .before .before .before .before in
-    let e = arranged-image (order a) (keys a) (tags a) (weights a) (sorted a) _ _ _ _ _ (a .arrange .result) (begun a .pre .0 .0) (begun a .pre .0 .1) (a .arrange .ensures) in
+    let e = arranged-image (order a) (salt a) (keys a) (tags a) (weights a) (sorted a) _ _ _ _ _ (a .arrange .result) (begun a .pre .0 .0) (begun a .pre .0 .1) (a .arrange .ensures) in
     (c .before .before .emit .ensures .0 ∙ ap length e, c .before .before .emit .ensures .1 ∙ ap (writtenTo (begun a .args .output .now)) e)
 
 pub write-within-spec : {M : Type 1} → statement M

@@ -7,20 +7,20 @@ use lib.ListN.{length, length-set}
 use lib.Seq.{take-length}
 use borrow.Author.Needs.{needs}
 use denote.Ref.{now}
-use Rattle.priority.specs.Priority.{priorityOf}
+use Rattle.priority.specs.Priority.{priorityWith}
 use Rattle.lists.proofs.Replaced.{replaced, replaced-next}
 use Rattle.priority.proofs.priorities_from.Statement.{statement}
 use Rattle.priority.proofs.priorities_from.Tie as tie
 
 abbrev Inv-loop : tie.InvT-loop
-Inv-loop constants keys output₀ i₀ i-end output i =
+Inv-loop constants keys output₀ salt i₀ i-end output i =
     (i ≤ length keys)
     × (i-end ≡ length keys)
     × (length output ≡ length output₀)
-    × (output ≡ replaced priorityOf keys output₀ i)
+    × (output ≡ replaced (priorityWith salt) keys output₀ i)
 
 abbrev μ-loop : tie.MeasureT-loop
-μ-loop constants keys output₀ i₀ i-end output i = length keys - i
+μ-loop constants keys output₀ salt i₀ i-end output i = length keys - i
 
 loop-holds : tie.Need-loop-holds Inv-loop μ-loop
 loop-holds c = search needs
@@ -50,7 +50,7 @@ loop-again : tie.Need-loop-again Inv-loop μ-loop
 loop-again c =
     let args = c .before .before .before .before .before .before .args in
     let loop = c .before .before .before .loop in
-    let next = replaced-next priorityOf (now (args .keys)) (now (args .output)) (loop .i) (search needs) (search needs) in
+    let next = replaced-next (priorityWith (args .salt)) (now (args .keys)) (now (args .output)) (loop .i) (search needs) (search needs) in
     (search needs, search needs, simp length-set (search needs), rw (loop .inv .3, c .priority-from .ensures) next)
 
 same-length : tie.Need-same-length Inv-loop μ-loop

@@ -3,17 +3,17 @@ use borrow.Author.Needs.{needs}
 use Rattle.table_descend.proofs.slot_reached.Statement.{statement}
 use Rattle.table_descend.proofs.slot_reached.Tie as tie
 
-priority-from-requires : tie.Need-priority-from-requires
-priority-from-requires c κs = search needs
+priority-of-requires : tie.Need-priority-of-requires
+priority-of-requires c κs = search needs
 
 slot-of-requires : tie.Need-slot-of-requires
 slot-of-requires c κs =
     let start = c .before .before in
     let pre = start .pre in
-    (pre .0, pre .1, pre .2, pre .3, pre .4, c .priority-from .ensures)
+    (pre .0, pre .1, pre .2, pre .3, pre .4, c .priority-of .ensures)
 
 returns : tie.Need-returns
 returns c = c .slot-of .ensures
 
 pub slot-reached-spec : {M : Type 1} → statement M
-slot-reached-spec = tie.close (tie.spec priority-from-requires slot-of-requires returns)
+slot-reached-spec = tie.close (tie.spec priority-of-requires slot-of-requires returns)

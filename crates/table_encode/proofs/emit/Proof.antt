@@ -2,7 +2,7 @@
 use mathlib.Core.List.{List, [], _∷_, _++_, flatMap}
 use mathlib.Core.Path.{_≡_, refl, sym, ap, _∙_, subst₂}
 use native.Mathlib.Numerals.{add-one}
-use Prim.Native.Nat.{ℕ, _≤_, _-_, _+_}
+use Prim.Native.Nat.{ℕ, _≤_, _-_}
 use native.Mathlib.Omega.{arith}
 use lib.ListN.{length, set, length-set}
 use Rattle.lists.specs.Lists.{overwrite}
@@ -15,14 +15,14 @@ use Rattle.table_encode.proofs.emit.Statement.{statement}
 use Rattle.table_encode.proofs.emit.Tie as tie
 
 abbrev Inv-loop : tie.InvT-loop
-Inv-loop order keys tags root left right leader rank count slots table₀ s₀ s-end table s =
+Inv-loop order keys tags root left right leader rank count slots table₀ salt s₀ s-end table s =
     (s-end ≡ length slots) × Emitted keys tags (record { left = left; right = right; leader = leader; rank = rank; count = count }) slots table₀ table s
 
 abbrev μ-loop : tie.MeasureT-loop
-μ-loop order keys tags root left right leader rank count slots table₀ s₀ s-end table s = length slots - s
+μ-loop order keys tags root left right leader rank count slots table₀ salt s₀ s-end table s = length slots - s
 
 -- where the loop begins the table is as long as it was lent
-start-long : (c : tie.After-key-at Inv-loop μ-loop) → length (set (set (set (c .before .before .before .before .before .before .before .before .before .before .args .table .now) 0 (c .before .before .before .before .before .before .before .before .before .before .args .order)) 1 (length (c .before .before .before .before .before .before .before .before .before .before .args .keys .now))) 2 (c .key-at .result)) ≡ tableWords (length (c .before .before .before .before .before .before .before .before .before .before .args .slots .now))
+start-long : (c : tie.After-key-at Inv-loop μ-loop) → length (set (set (set (set (c .before .before .before .before .before .before .before .before .before .before .args .table .now) 0 (c .before .before .before .before .before .before .before .before .before .before .args .order)) 1 (length (c .before .before .before .before .before .before .before .before .before .before .args .keys .now))) 2 (c .key-at .result)) 3 (c .before .before .before .before .before .before .before .before .before .before .args .salt)) ≡ tableWords (length (c .before .before .before .before .before .before .before .before .before .before .args .slots .now))
 start-long c = simp length-set (c .before .before .before .before .before .before .before .before .before .before .pre .1 .1)
 
 slice-write-table : tie.Need-slice-write-table Inv-loop μ-loop
@@ -36,6 +36,9 @@ key-at-requires c κs = search needs
 
 slice-write-table-3 : tie.Need-slice-write-table-3 Inv-loop μ-loop
 slice-write-table-3 c = simp length-set (omega arith)
+
+slice-write-table-4 : tie.Need-slice-write-table-4 Inv-loop μ-loop
+slice-write-table-4 c = simp length-set (omega arith)
 
 loop-holds : tie.Need-loop-holds Inv-loop μ-loop
 loop-holds c = (refl, emitted-start _ _ _ _ _ (start-long c))
@@ -77,7 +80,7 @@ loop-again c =
     let loop = c .before .before .before .before .before .before .before .loop in
     let begin = c .before .before .before .before .before .before .before .before in
     let columns : Columns = record { left = args .left .now; right = args .right .now; leader = args .leader .now; rank = args .rank .now; count = args .count .now } in
-    let lent = set (set (set (args .table .now) 0 (args .order)) 1 (length (args .keys .now))) 2 (begin .key-at .result) in (
+    let lent = set (set (set (set (args .table .now) 0 (args .order)) 1 (length (args .keys .now))) 2 (begin .key-at .result)) 3 (args .salt) in (
       refl,
       subst₂ (Emitted (args .keys .now) (args .tags .now) columns (args .slots .now) lent)
           (sym (c .before .before .write-slot .ensures ∙ ap (overwrite (loop .table) (slotStart (loop .s))) (c .before .before .before .before .slot-at .ensures))) (sym (add-one (loop .s)))
@@ -94,9 +97,9 @@ returns c =
     let begin = c .before .before in
     let words = flatMap (slotAt (args .keys .now) (args .tags .now) (record { left = args .left .now; right = args .right .now; leader = args .leader .now; rank = args .rank .now; count = args .count .now })) (args .slots .now) in
     let long = c .before .before .before .before .before .before .before .before .before .before .before .before .pre .1 .1 in
-    emitted-end (args .keys .now) (args .tags .now) (record { left = args .left .now; right = args .right .now; leader = args .leader .now; rank = args .rank .now; count = args .count .now }) (args .slots .now) (set (set (set (args .table .now) 0 (args .order)) 1 (length (args .keys .now))) 2 (begin .key-at .result)) (start-long begin) (c .before .loop .table) (c .before .loop .s) (c .before .loop .inv .1) (omega arith)
-    ∙ ap (λ (xs : List ℕ). xs ++ words) (header-stores (args .table .now) (args .order) (length (args .keys .now)) (begin .key-at .result) (omega arith))
-    ∙ ap (λ (z : ℕ). (args .order ∷ length (args .keys .now) ∷ z ∷ []) ++ words) (begin .key-at .ensures)
+    emitted-end (args .keys .now) (args .tags .now) (record { left = args .left .now; right = args .right .now; leader = args .leader .now; rank = args .rank .now; count = args .count .now }) (args .slots .now) (set (set (set (set (args .table .now) 0 (args .order)) 1 (length (args .keys .now))) 2 (begin .key-at .result)) 3 (args .salt)) (start-long begin) (c .before .loop .table) (c .before .loop .s) (c .before .loop .inv .1) (omega arith)
+    ∙ ap (λ (xs : List ℕ). xs ++ words) (header-stores (args .table .now) (args .order) (length (args .keys .now)) (begin .key-at .result) (args .salt) (omega arith))
+    ∙ ap (λ (z : ℕ). (args .order ∷ length (args .keys .now) ∷ z ∷ args .salt ∷ []) ++ words) (begin .key-at .ensures)
 
 pub emit-spec : {M : Type 1} → statement M
 emit-spec =
@@ -108,6 +111,7 @@ emit-spec =
     slice-write-table-2
     key-at-requires
     slice-write-table-3
+    slice-write-table-4
     loop-holds
     mul-slot-at
     shared-slice-read-slot-at

@@ -10,7 +10,7 @@ use borrow.Author.Tests.{not-true, not-false}
 use Rattle.lists.specs.Lists.{All, lies, overwrite, risesB, same}
 use Rattle.lists.proofs.Start.{starts-with}
 use Rattle.lists.proofs.Tests.{true-or-false}
-use Rattle.table.specs.Layout.{leastOrder, greatestOrder, orderWord}
+use Rattle.table.specs.Layout.{leastOrder, greatestOrder, orderWord, saltWord}
 use Rattle.table.specs.Contents.{Entry, Contents, tableOrder, keysIn, rightMeasure}
 use Rattle.table.specs.Tags.{entryTags, tagsIn, tagged, Beside}
 use Rattle.table.specs.Table.{fresh, contentsOf}
@@ -31,7 +31,7 @@ use Rattle.table_examine.proofs.examine_within.Tie as tie
 
 -- ---- the ways between places
 abbrev begun : tie.After-read-keys → tie.Start
-begun p = p .before .before .before .before .before .before .before .before .before .before .before .before .before .before .before .before .before .before .before .before
+begun p = p .before .before .before .before .before .before .before .before .before .before .before .before .before .before .before .before .before .before .before .before .before
 
 abbrev rises-tested : tie.Else2 → tie.After-read-keys
 rises-tested p = p .before .before .before .before .before .before .before .before .before .before .before .before .before
@@ -107,19 +107,22 @@ abbrev prepared : tie.After-prepare → Columns
 prepared m = record { left = (m .prepare .last .1 .1 .1 .1 .1 .0); right = (m .prepare .last .1 .1 .1 .1 .1 .1 .0); leader = (m .prepare .last .1 .1 .1 .1 .1 .1 .1 .1 .1 .0); rank = (m .prepare .last .1 .1 .1 .1 .1 .1 .1 .0); count = (m .prepare .last .1 .1 .1 .1 .1 .1 .1 .1 .0) }
 
 compares : (m : tie.After-prepare) → soundWith (slots-in (rises-tested (tested m))) (words-in (rises-tested (tested m)))
-    ≡ same (words-in (rises-tested (tested m))) (wordsOf (getD (words-in (rises-tested (tested m))) orderWord 0) (take ((rises-tested (tested m)) .read-keys .result) (list-in (rises-tested (tested m)))) (take ((rises-tested (tested m)) .read-keys .result) (tags-in (rises-tested (tested m)))) (m .prepare .result) (prepared m) (take (slots-in (rises-tested (tested m))) (m .prepare .last .1 .1 .1 .1 .1 .1 .1 .1 .1 .1 .0)))
+    ≡ same (words-in (rises-tested (tested m))) (wordsOf (getD (words-in (rises-tested (tested m))) orderWord 0) (getD (words-in (rises-tested (tested m))) saltWord 0) (take ((rises-tested (tested m)) .read-keys .result) (list-in (rises-tested (tested m)))) (take ((rises-tested (tested m)) .read-keys .result) (tags-in (rises-tested (tested m)))) (m .prepare .result) (prepared m) (take (slots-in (rises-tested (tested m))) (m .prepare .last .1 .1 .1 .1 .1 .1 .1 .1 .1 .1 .0)))
 compares m =
     let p = rises-tested (tested m) in
     let tags = take (p .read-keys .result) (tags-in p) in
-    let shown : Contents = tagged (getD (words-in p) orderWord 0) (take (p .read-keys .result) (list-in p)) tags in
+    let shown : Contents = tagged (getD (words-in p) orderWord 0) (getD (words-in p) saltWord 0) (take (p .read-keys .result) (list-in p)) tags in
     let keys = comparable (tested m) in
     decided (slots-in p) (words-in p) (right p) (all-rise (tested m))
     ∙ sym (compared (slots-in p) (words-in p) (take (p .read-keys .result) (list-in p)) tags (read p) (tags-read (tested m)))
     ∙ ap (λ (m : ℕ). same (words-in p) (fresh m shown)) (sym (m .prepare .ensures .1))
-    ∙ ap (same (words-in p)) (sym (prepared-words (getD (words-in (rises-tested (tested m))) orderWord 0) (comparable (tested m) .wide) (take ((rises-tested (tested m)) .read-keys .result) (list-in (rises-tested (tested m)))) (m .prepare .last .1 .1 .1 .1 .1 .0) (m .prepare .last .1 .1 .1 .1 .1 .1 .0) (m .prepare .last .1 .1 .1 .1 .1 .1 .1 .0) (m .prepare .last .1 .1 .1 .1 .1 .1 .1 .1 .0) (m .prepare .last .1 .1 .1 .1 .1 .1 .1 .1 .1 .0) (take (slots-in (rises-tested (tested m))) (m .prepare .last .1 .1 .1 .1 .1 .1 .1 .1 .1 .1 .0)) (m .prepare .result) (m .prepare .ensures .0) (keys .rising) (keys .some) tags (beside (tested m))))
+    ∙ ap (same (words-in p)) (sym (prepared-words (getD (words-in (rises-tested (tested m))) orderWord 0) (getD (words-in (rises-tested (tested m))) saltWord 0) (comparable (tested m) .wide) (take ((rises-tested (tested m)) .read-keys .result) (list-in (rises-tested (tested m)))) (m .prepare .last .1 .1 .1 .1 .1 .0) (m .prepare .last .1 .1 .1 .1 .1 .1 .0) (m .prepare .last .1 .1 .1 .1 .1 .1 .1 .0) (m .prepare .last .1 .1 .1 .1 .1 .1 .1 .1 .0) (m .prepare .last .1 .1 .1 .1 .1 .1 .1 .1 .1 .0) (take (slots-in (rises-tested (tested m))) (m .prepare .last .1 .1 .1 .1 .1 .1 .1 .1 .1 .1 .0)) (m .prepare .result) (m .prepare .ensures .0) (keys .rising) (keys .some) tags (beside (tested m))))
 
 shared-slice-read-order : tie.Need-shared-slice-read-order
 shared-slice-read-order c = search needs
+
+shared-slice-read-salt : tie.Need-shared-slice-read-salt
+shared-slice-read-salt c = search needs
 
 is-order-requires : tie.Need-is-order-requires
 is-order-requires c κs = search needs
@@ -127,7 +130,7 @@ is-order-requires c κs = search needs
 returns : tie.Need-returns
 unfolding tableOrder
 returns c =
-    let start = c .before .before .before .before .before .before .before .before .before .before .before .before .before .before in
+    let start = c .before .before .before .before .before .before .before .before .before .before .before .before .before .before .before in
     let many = start .args .many in
     let words = start .args .table .now in
     let order = c .before .is-order in
@@ -136,7 +139,7 @@ returns c =
 
 read-keys-requires : tie.Need-read-keys-requires
 read-keys-requires c κs =
-    let pre = c .before .before .before .before .before .before .before .before .before .before .before .before .before .before .before .before .before .before .before .pre in
+    let pre = c .before .before .before .before .before .before .before .before .before .before .before .before .before .before .before .before .before .before .before .before .pre in
     ((omega (arith, pre .0 .2), pre .0 .1), (pre .0 .3, pre .1 .0 .0, pre .1 .0 .1, pre .1 .0 .2, pre .0 .4))
 
 rises-requires : tie.Need-rises-requires
@@ -201,7 +204,7 @@ slice-aggregate-matches-2 c =
     sym (length-take-le (p .read-keys .result) (tags-in p) (tags-fit q))
 
 slice-reshare-prefix-matches-3 : tie.Need-slice-reshare-prefix-matches-3
-slice-reshare-prefix-matches-3 c = omega (arith, c .before .before .before .before .before .before .before .before .before .before .before .before .before .before .before .before .before .before .before .before .before .before .before .before .before .before .before .before .before .before .before .before .before .before .before .before .before .before .before .before .before .before .before .before .before .before .before .before .before .before .before .before .before .before .before .before .before .before .before .before .before .before .before .before .before .before .pre .1 .1 .3, c .before .before .before .before .before .before .before .before .slots .given)
+slice-reshare-prefix-matches-3 c = omega (arith, c .before .before .before .before .before .before .before .before .before .before .before .before .before .before .before .before .before .before .before .before .before .before .before .before .before .before .before .before .before .before .before .before .before .before .before .before .before .before .before .before .before .before .before .before .before .before .before .before .before .before .before .before .before .before .before .before .before .before .before .before .before .before .before .before .before .before .before .pre .1 .1 .3, c .before .before .before .before .before .before .before .before .slots .given)
 
 slice-aggregate-matches-3 : tie.Need-slice-aggregate-matches-3
 slice-aggregate-matches-3 c = sym (c .before .before .before .before .before .before .before .before .before .before .before .before .before .before .before .before .before .before .before .before .before .before .before .before .prepare .ensures .1)
@@ -210,8 +213,8 @@ matches-requires : tie.Need-matches-requires
 matches-requires c κs =
     let m : tie.After-prepare = c .before .before .before .before .before .before .before .before .before .before .before .before .before .before .before .before .before .before .before .before .before .before .before .before in
     let keys = comparable (tested m) in (
-      linked (getD (words-in (rises-tested (tested m))) orderWord 0) (comparable (tested m) .wide) (take ((rises-tested (tested m)) .read-keys .result) (list-in (rises-tested (tested m)))) (m .prepare .last .1 .1 .1 .1 .1 .0) (m .prepare .last .1 .1 .1 .1 .1 .1 .0) (m .prepare .last .1 .1 .1 .1 .1 .1 .1 .0) (m .prepare .last .1 .1 .1 .1 .1 .1 .1 .1 .0) (m .prepare .last .1 .1 .1 .1 .1 .1 .1 .1 .1 .0) (take (slots-in (rises-tested (tested m))) (m .prepare .last .1 .1 .1 .1 .1 .1 .1 .1 .1 .1 .0)) (m .prepare .result) (m .prepare .ensures .0),
-      ((root-within (getD (words-in (rises-tested (tested m))) orderWord 0) (comparable (tested m) .wide) (take ((rises-tested (tested m)) .read-keys .result) (list-in (rises-tested (tested m)))) (m .prepare .last .1 .1 .1 .1 .1 .0) (m .prepare .last .1 .1 .1 .1 .1 .1 .0) (m .prepare .last .1 .1 .1 .1 .1 .1 .1 .0) (m .prepare .last .1 .1 .1 .1 .1 .1 .1 .1 .0) (m .prepare .last .1 .1 .1 .1 .1 .1 .1 .1 .1 .0) (take (slots-in (rises-tested (tested m))) (m .prepare .last .1 .1 .1 .1 .1 .1 .1 .1 .1 .1 .0)) (m .prepare .result) (m .prepare .ensures .0), slots-low (getD (words-in (rises-tested (tested m))) orderWord 0) (comparable (tested m) .wide) (take ((rises-tested (tested m)) .read-keys .result) (list-in (rises-tested (tested m)))) (m .prepare .last .1 .1 .1 .1 .1 .0) (m .prepare .last .1 .1 .1 .1 .1 .1 .0) (m .prepare .last .1 .1 .1 .1 .1 .1 .1 .0) (m .prepare .last .1 .1 .1 .1 .1 .1 .1 .1 .0) (m .prepare .last .1 .1 .1 .1 .1 .1 .1 .1 .1 .0) (take (slots-in (rises-tested (tested m))) (m .prepare .last .1 .1 .1 .1 .1 .1 .1 .1 .1 .1 .0)) (m .prepare .result) (m .prepare .ensures .0) (keys .rising) (keys .some), omega (arith, beside (tested m) .as-many)), omega (arith, begun (rises-tested (tested m)) .pre .0 .2, m .prepare .ensures .1)),
+      linked (getD (words-in (rises-tested (tested m))) orderWord 0) (getD (words-in (rises-tested (tested m))) saltWord 0) (comparable (tested m) .wide) (take ((rises-tested (tested m)) .read-keys .result) (list-in (rises-tested (tested m)))) (m .prepare .last .1 .1 .1 .1 .1 .0) (m .prepare .last .1 .1 .1 .1 .1 .1 .0) (m .prepare .last .1 .1 .1 .1 .1 .1 .1 .0) (m .prepare .last .1 .1 .1 .1 .1 .1 .1 .1 .0) (m .prepare .last .1 .1 .1 .1 .1 .1 .1 .1 .1 .0) (take (slots-in (rises-tested (tested m))) (m .prepare .last .1 .1 .1 .1 .1 .1 .1 .1 .1 .1 .0)) (m .prepare .result) (m .prepare .ensures .0),
+      ((root-within (getD (words-in (rises-tested (tested m))) orderWord 0) (getD (words-in (rises-tested (tested m))) saltWord 0) (comparable (tested m) .wide) (take ((rises-tested (tested m)) .read-keys .result) (list-in (rises-tested (tested m)))) (m .prepare .last .1 .1 .1 .1 .1 .0) (m .prepare .last .1 .1 .1 .1 .1 .1 .0) (m .prepare .last .1 .1 .1 .1 .1 .1 .1 .0) (m .prepare .last .1 .1 .1 .1 .1 .1 .1 .1 .0) (m .prepare .last .1 .1 .1 .1 .1 .1 .1 .1 .1 .0) (take (slots-in (rises-tested (tested m))) (m .prepare .last .1 .1 .1 .1 .1 .1 .1 .1 .1 .1 .0)) (m .prepare .result) (m .prepare .ensures .0), slots-low (getD (words-in (rises-tested (tested m))) orderWord 0) (getD (words-in (rises-tested (tested m))) saltWord 0) (comparable (tested m) .wide) (take ((rises-tested (tested m)) .read-keys .result) (list-in (rises-tested (tested m)))) (m .prepare .last .1 .1 .1 .1 .1 .0) (m .prepare .last .1 .1 .1 .1 .1 .1 .0) (m .prepare .last .1 .1 .1 .1 .1 .1 .1 .0) (m .prepare .last .1 .1 .1 .1 .1 .1 .1 .1 .0) (m .prepare .last .1 .1 .1 .1 .1 .1 .1 .1 .1 .0) (take (slots-in (rises-tested (tested m))) (m .prepare .last .1 .1 .1 .1 .1 .1 .1 .1 .1 .1 .0)) (m .prepare .result) (m .prepare .ensures .0) (keys .rising) (keys .some), omega (arith, beside (tested m) .as-many)), omega (arith, begun (rises-tested (tested m)) .pre .0 .2, m .prepare .ensures .1)),
     )
 
 conclude-requires : tie.Need-conclude-requires
@@ -269,6 +272,7 @@ examine-within-spec =
     tie.close
     (tie.spec
     shared-slice-read-order
+    shared-slice-read-salt
     is-order-requires
     returns
     read-keys-requires

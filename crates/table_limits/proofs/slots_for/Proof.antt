@@ -3,6 +3,7 @@ use mathlib.Core.Path.{sym}
 use Prim.Native.Nat.{_-_, _/_}
 use native.Mathlib.Omega.{arith}
 use Rattle.table_limits.proofs.Lengths.{slots-for-is, slots-for-none}
+use Rattle.table.specs.Layout.{headerWords, slotWords}
 use borrow.Author.Needs.{needs}
 use Rattle.table_limits.proofs.slots_for.Statement.{statement}
 use Rattle.table_limits.proofs.slots_for.Tie as tie
@@ -25,7 +26,7 @@ returns-3 c = sym (slots-for-none (c .before .before .before .args .words) (λ m
 returns-4 : tie.Need-returns-4
 returns-4 c =
     let words = c .before .before .before .args .words in
-    sym (slots-for-is words ((words - 3) / 8) (omega arith) (omega arith) (omega arith))
+    sym (slots-for-is words ((words - headerWords) / slotWords) (omega arith) (omega arith) (omega arith))
 
 pub slots-for-spec : {M : Type 1} → statement M
 slots-for-spec = tie.close (tie.spec add-if1 returns sub-rest returns-2 returns-3 returns-4)

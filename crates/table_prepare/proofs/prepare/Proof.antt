@@ -5,7 +5,7 @@ use Prim.Native.Nat.{ℕ, _≤_}
 use native.Mathlib.Omega.{arith}
 use lib.ListN.{length, take, drop, length-map}
 use lib.Seq.{length-take-le}
-use Rattle.priority.specs.Priority.{priorityOf}
+use Rattle.priority.specs.Priority.{priorityWith}
 use Rattle.lists.proofs.Start.{starts-and}
 use Rattle.sorting.specs.ByWeight.{byWeight}
 use Rattle.sorting.proofs.ByWeight.{byWeight-length}
@@ -22,18 +22,18 @@ begun p = p .before .before .before .before .before .before .before .before .bef
 
 -- once the priorities are made: as many weights as keys, and room for both lists
 many : (p : tie.After-prioritize) → length (take (length (begun p .args .keys .now)) (p .prioritize .last .1 .0)) ≡ length (begun p .args .keys .now)
-many p = many-weights (begun p .args .keys .now) (p .prioritize .last .1 .0) (p .prioritize .ensures .0)
+many p = many-weights (begun p .args .salt) (begun p .args .keys .now) (p .prioritize .last .1 .0) (p .prioritize .ensures .0)
 
 weights-room : (p : tie.After-prioritize) → length (begun p .args .keys .now) ≤ length (p .prioritize .last .1 .0)
-weights-room p = room (p .prioritize .last .1 .0) (map priorityOf (begun p .args .keys .now)) (length (begun p .args .keys .now)) (p .prioritize .ensures .0) (length-map (begun p .args .keys .now) priorityOf)
+weights-room p = room (p .prioritize .last .1 .0) (map (priorityWith (begun p .args .salt)) (begun p .args .keys .now)) (length (begun p .args .keys .now)) (p .prioritize .ensures .0) (length-map (begun p .args .keys .now) (priorityWith (begun p .args .salt)))
 
 ranking-room : (p : tie.After-prioritize) → length (begun p .args .keys .now) ≤ length (p .prioritize .last .1 .1 .0)
 ranking-room p =
     let keys = begun p .args .keys .now in
-    room (p .prioritize .last .1 .1 .0) (byWeight (map priorityOf keys)) (length keys) (p .prioritize .ensures .1) (byWeight-length (map priorityOf keys) ∙ length-map keys priorityOf)
+    room (p .prioritize .last .1 .1 .0) (byWeight (map (priorityWith (begun p .args .salt)) keys)) (length keys) (p .prioritize .ensures .1) (byWeight-length (map (priorityWith (begun p .args .salt)) keys) ∙ length-map keys (priorityWith (begun p .args .salt)))
 
 ordered : (p : tie.After-prioritize) → InOrder (take (length (begun p .args .keys .now)) (p .prioritize .last .1 .0)) (take (length (begun p .args .keys .now)) (p .prioritize .last .1 .1 .0))
-ordered p = ranking-in-order (begun p .args .keys .now) (p .prioritize .last .1 .0) (p .prioritize .ensures .0) (p .prioritize .last .1 .1 .0) (p .prioritize .ensures .1)
+ordered p = ranking-in-order (begun p .args .salt) (begun p .args .keys .now) (p .prioritize .last .1 .0) (p .prioritize .ensures .0) (p .prioritize .last .1 .1 .0) (p .prioritize .ensures .1)
 
 prioritize-requires : tie.Need-prioritize-requires
 prioritize-requires c κs =
@@ -120,12 +120,12 @@ returns c =
     let place = c .before .before .before .before .before .before .before .before .before .before .before .before .before .before .before .before .before .before .before .before .before .before .place in
     let lent = take (start .args .many) (start .args .slots .now) in
     let long : length (place .last .1 .1 .0) ≡ start .args .many =
-    placed-many keys (p .prioritize .last .1 .0) (p .prioritize .ensures .0) (place .last .1 .1 .0) lent (place .ensures)
+    placed-many (start .args .salt) keys (p .prioritize .last .1 .0) (p .prioritize .ensures .0) (place .last .1 .1 .0) lent (place .ensures)
     ∙ length-take-le (start .args .many) (start .args .slots .now) (start .pre .1 .1 .1 .3)
     in
     let taken = starts-and (place .last .1 .1 .0 ++ drop (start .args .many) (start .args .slots .now)) (start .args .slots .now) (place .last .1 .1 .0) (start .args .many) refl long in (
-      subst (λ (s : List ℕ). Prepared (start .args .order) keys (fill .last .1 .1 .1 .0) (fill .last .1 .1 .1 .1 .0) (fill .last .1 .1 .1 .1 .1 .0) (fill .last .1 .1 .1 .1 .1 .1 .0) (fill .last .1 .1 .1 .1 .1 .1 .1 .0) s (fill .result)) (sym taken)
-          (prepared-from keys (p .prioritize .last .1 .0) (p .prioritize .ensures .0) (start .args .order) _ _ _ _ _ _ lent (fill .result) (fill .ensures .0) (fill .ensures .1) (place .ensures)),
+      subst (λ (s : List ℕ). Prepared (start .args .order) (start .args .salt) keys (fill .last .1 .1 .1 .0) (fill .last .1 .1 .1 .1 .0) (fill .last .1 .1 .1 .1 .1 .0) (fill .last .1 .1 .1 .1 .1 .1 .0) (fill .last .1 .1 .1 .1 .1 .1 .1 .0) s (fill .result)) (sym taken)
+          (prepared-from (start .args .salt) keys (p .prioritize .last .1 .0) (p .prioritize .ensures .0) (start .args .order) _ _ _ _ _ _ lent (fill .result) (fill .ensures .0) (fill .ensures .1) (place .ensures)),
       ap length taken ∙ long,
     )
 

@@ -2,7 +2,7 @@
 use mathlib.Core.List.{map}
 use mathlib.Core.Path.{_≡_, ap, _∙_}
 use lib.ListN.{length, take, length-map}
-use Rattle.priority.specs.Priority.{priorityOf}
+use Rattle.priority.specs.Priority.{priorityWith}
 use Rattle.sorting.specs.ByWeight.{byWeight}
 use Rattle.sorting.proofs.ByWeight.{byWeight-length}
 use Rattle.lists.proofs.Start.{starts-and}
@@ -35,9 +35,9 @@ returns c =
     let keys = args .keys .now in
     let n = length keys in
     let ws = c .before .before .before .before .before .before .before .before .before .before .priorities-from .last .1 .1 .0 in
-    let weights : take n ws ≡ map priorityOf keys = starts-and ws (args .weights .now) (map priorityOf keys) n (c .before .before .before .before .before .before .before .before .before .before .priorities-from .ensures) (length-map keys priorityOf) in (
+    let weights : take n ws ≡ map (priorityWith (args .salt)) keys = starts-and ws (args .weights .now) (map (priorityWith (args .salt)) keys) n (c .before .before .before .before .before .before .before .before .before .before .priorities-from .ensures) (length-map keys (priorityWith (args .salt))) in (
       weights,
-      starts-and (c .before .before .before .before .by-weight .last .1 .1 .0) (args .ranking .now) (byWeight (take n ws)) n (c .before .before .before .before .by-weight .ensures) (byWeight-length (take n ws) ∙ ap length weights ∙ length-map keys priorityOf)
+      starts-and (c .before .before .before .before .by-weight .last .1 .1 .0) (args .ranking .now) (byWeight (take n ws)) n (c .before .before .before .before .by-weight .ensures) (byWeight-length (take n ws) ∙ ap length weights ∙ length-map keys (priorityWith (args .salt)))
           ∙ ap byWeight weights,
     )
 

@@ -30,9 +30,9 @@ emit-requires : tie.Need-emit-requires
 emit-requires c κs =
     let start = begun (c .before .before .before .before .before .before .before .before .before .before .before .before .before .before .before .before .before .before .before .before .before .before .before) in
     let p = c .before .before .before .before .before .before .before .before .before .before .before .before .before .before .before .before .before .before .before .before .before .before .before .prepare in (
-      linked (start .args .order) (start .pre .0 .0 .wide) (start .args .keys .now) (p .last .1 .1 .1 .1 .1 .0) (p .last .1 .1 .1 .1 .1 .1 .0) (p .last .1 .1 .1 .1 .1 .1 .1 .0) (p .last .1 .1 .1 .1 .1 .1 .1 .1 .0) (p .last .1 .1 .1 .1 .1 .1 .1 .1 .1 .0) (take (start .args .many) (p .last .1 .1 .1 .1 .1 .1 .1 .1 .1 .1 .0)) (p .result) (p .ensures .0),
+      linked (start .args .order) (start .args .salt) (start .pre .0 .0 .wide) (start .args .keys .now) (p .last .1 .1 .1 .1 .1 .0) (p .last .1 .1 .1 .1 .1 .1 .0) (p .last .1 .1 .1 .1 .1 .1 .1 .0) (p .last .1 .1 .1 .1 .1 .1 .1 .1 .0) (p .last .1 .1 .1 .1 .1 .1 .1 .1 .1 .0) (take (start .args .many) (p .last .1 .1 .1 .1 .1 .1 .1 .1 .1 .1 .0)) (p .result) (p .ensures .0),
       (
-        (root-within (start .args .order) (start .pre .0 .0 .wide) (start .args .keys .now) (p .last .1 .1 .1 .1 .1 .0) (p .last .1 .1 .1 .1 .1 .1 .0) (p .last .1 .1 .1 .1 .1 .1 .1 .0) (p .last .1 .1 .1 .1 .1 .1 .1 .1 .0) (p .last .1 .1 .1 .1 .1 .1 .1 .1 .1 .0) (take (start .args .many) (p .last .1 .1 .1 .1 .1 .1 .1 .1 .1 .1 .0)) (p .result) (p .ensures .0), slots-low (start .args .order) (start .pre .0 .0 .wide) (start .args .keys .now) (p .last .1 .1 .1 .1 .1 .0) (p .last .1 .1 .1 .1 .1 .1 .0) (p .last .1 .1 .1 .1 .1 .1 .1 .0) (p .last .1 .1 .1 .1 .1 .1 .1 .1 .0) (p .last .1 .1 .1 .1 .1 .1 .1 .1 .1 .0) (take (start .args .many) (p .last .1 .1 .1 .1 .1 .1 .1 .1 .1 .1 .0)) (p .result) (p .ensures .0) (start .pre .0 .0 .rising) (start .pre .0 .0 .some), let many = start .pre .0 .1 .as-many in omega arith),
+        (root-within (start .args .order) (start .args .salt) (start .pre .0 .0 .wide) (start .args .keys .now) (p .last .1 .1 .1 .1 .1 .0) (p .last .1 .1 .1 .1 .1 .1 .0) (p .last .1 .1 .1 .1 .1 .1 .1 .0) (p .last .1 .1 .1 .1 .1 .1 .1 .1 .0) (p .last .1 .1 .1 .1 .1 .1 .1 .1 .1 .0) (take (start .args .many) (p .last .1 .1 .1 .1 .1 .1 .1 .1 .1 .1 .0)) (p .result) (p .ensures .0), slots-low (start .args .order) (start .args .salt) (start .pre .0 .0 .wide) (start .args .keys .now) (p .last .1 .1 .1 .1 .1 .0) (p .last .1 .1 .1 .1 .1 .1 .0) (p .last .1 .1 .1 .1 .1 .1 .1 .0) (p .last .1 .1 .1 .1 .1 .1 .1 .1 .0) (p .last .1 .1 .1 .1 .1 .1 .1 .1 .1 .0) (take (start .args .many) (p .last .1 .1 .1 .1 .1 .1 .1 .1 .1 .1 .0)) (p .result) (p .ensures .0) (start .pre .0 .0 .rising) (start .pre .0 .0 .some), let many = start .pre .0 .1 .as-many in omega arith),
         omega (arith, start .pre .1 .0 .3, p .ensures .1),
       ),
     )
@@ -68,9 +68,9 @@ returns : tie.Need-returns
 returns c =
     let start = begun (c .before .before .before .before .before .before .before .before .before .before .before .before .before .before .before .before .before .before .before .before .before .before .before .before .before .before) in
     let p = c .before .before .before .before .before .before .before .before .before .before .before .before .before .before .before .before .before .before .before .before .before .before .before .before .before .before .prepare in
-    let contents : Contents = tagged (start .args .order) (start .args .keys .now) (start .args .tags .now) in
+    let contents : Contents = tagged (start .args .order) (start .args .salt) (start .args .keys .now) (start .args .tags .now) in
     c .before .before .emit .ensures
-    ∙ prepared-words (start .args .order) (start .pre .0 .0 .wide) (start .args .keys .now) (p .last .1 .1 .1 .1 .1 .0) (p .last .1 .1 .1 .1 .1 .1 .0) (p .last .1 .1 .1 .1 .1 .1 .1 .0) (p .last .1 .1 .1 .1 .1 .1 .1 .1 .0) (p .last .1 .1 .1 .1 .1 .1 .1 .1 .1 .0) (take (start .args .many) (p .last .1 .1 .1 .1 .1 .1 .1 .1 .1 .1 .0)) (p .result) (p .ensures .0) (start .pre .0 .0 .rising) (start .pre .0 .0 .some) (start .args .tags .now) (start .pre .0 .1)
+    ∙ prepared-words (start .args .order) (start .args .salt) (start .pre .0 .0 .wide) (start .args .keys .now) (p .last .1 .1 .1 .1 .1 .0) (p .last .1 .1 .1 .1 .1 .1 .0) (p .last .1 .1 .1 .1 .1 .1 .1 .0) (p .last .1 .1 .1 .1 .1 .1 .1 .1 .0) (p .last .1 .1 .1 .1 .1 .1 .1 .1 .1 .0) (take (start .args .many) (p .last .1 .1 .1 .1 .1 .1 .1 .1 .1 .1 .0)) (p .result) (p .ensures .0) (start .pre .0 .0 .rising) (start .pre .0 .0 .some) (start .args .tags .now) (start .pre .0 .1)
     ∙ ap (λ (m : ℕ). fresh m contents) (p .ensures .1)
 
 pub write-within-spec : {M : Type 1} → statement M
