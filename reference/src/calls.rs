@@ -8,13 +8,13 @@
 use crate::blocks::blocks_met;
 use crate::image::{contents_of, image};
 use crate::listing::listing;
-use crate::load::end_set;
+use crate::load::{end_set, NO_SALT};
 use crate::measure::Measure;
 use crate::priority::{priority, Priority};
 use crate::table::{self, shape_of, slots_of_length, words};
 use crate::{is_order, Contents, Set};
 
-/// 1. Table length is not 3 + 8·M.
+/// 1. Table length is not 4 + 8·M.
 pub const TABLE_LENGTH: u64 = 1;
 /// 2. Order outside 3 to 255.
 pub const ORDER: u64 = 2;
@@ -156,7 +156,7 @@ fn measures_for(number: usize, lengths: &[u64], corrections: &[i32]) -> Outcome<
 }
 
 impl Index<'_> {
-    /// The order and set of a sound table; none for an unsound one.
+    /// The order, salt and set of a sound table; none for an unsound one.
     pub fn sound(&self, table: &[u64]) -> Option<Contents> {
         table::sound(self.priority, table)
     }
@@ -173,15 +173,16 @@ impl Index<'_> {
 
     // -----------------------------------------------------------------------
 
-    /// "Set-up writes a blank table." "Set-up uses 1, 2"
-    pub fn set_up(&self, table: &mut [u64], order: u64) -> PlainReply {
-        plain(self.try_set_up(table, order))
+    /// "Set-up writes a blank table." "Set-up uses 1, 2" "A table has a 64-bit salt,
+    /// chosen at set-up or build": any number is one.
+    pub fn set_up(&self, table: &mut [u64], order: u64, salt: u64) -> PlainReply {
+        plain(self.try_set_up(table, order, salt))
     }
 
-    fn try_set_up(&self, table: &mut [u64], order: u64) -> Outcome<()> {
+    fn try_set_up(&self, table: &mut [u64], order: u64, salt: u64) -> Outcome<()> {
         let m = slots(table)?;
         refuse_if(!is_order(order), ORDER)?;
-        self.write(table, m, &Contents::unmeasured(order, &[]));
+        self.write(table, m, &Contents::unmeasured(order, &[]).salted(salt));
         Ok(())
     }
 
@@ -192,23 +193,25 @@ impl Index<'_> {
         &self,
         table: &mut [u64],
         order: u64,
+        salt: u64,
         keys: &[u64],
         lengths: &[u64],
         corrections: &[i32],
     ) -> PlainReply {
-        plain(self.try_build(table, order, keys, (lengths, corrections)))
+        plain(self.try_build(table, order, salt, keys, (lengths, corrections)))
     }
 
-    /// The build of keys of which none is measured.
+    /// The build of keys of which none is measured, under the salt zero.
     pub fn build_unmeasured(&self, table: &mut [u64], order: u64, keys: &[u64]) -> PlainReply {
         let (lengths, corrections) = (vec![0; keys.len()], vec![0; keys.len()]);
-        self.build(table, order, keys, &lengths, &corrections)
+        self.build(table, order, 0, keys, &lengths, &corrections)
     }
 
     fn try_build(
         &self,
         table: &mut [u64],
         order: u64,
+        salt: u64,
         keys: &[u64],
         (lengths, corrections): (&[u64], &[i32]),
     ) -> Outcome<()> {
@@ -218,7 +221,7 @@ impl Index<'_> {
         let measures = measures_for(keys.len(), lengths, corrections)?;
         refuse_if(keys.len() > m, TOO_MANY)?;
         let set: Set = keys.iter().copied().zip(measures).collect();
-        self.write(table, m, &Contents { order, set });
+        self.write(table, m, &Contents { order, salt, set });
         Ok(())
     }
 
@@ -234,7 +237,8 @@ impl Index<'_> {
         refuse_if(!is_order(order), ORDER)?;
         // "a load's keys are unmeasured"
         let keys: Vec<u64> = end_set(m, seed, count).into_iter().collect();
-        self.write(table, m, &Contents::unmeasured(order, &keys));
+        let contents = Contents::unmeasured(order, &keys).salted(NO_SALT);
+        self.write(table, m, &contents);
         Ok(())
     }
 

@@ -1,14 +1,15 @@
 //! Treaps told by how deep each key lies, the keys rising and the root at 0; for the tests
 //! and the comparison.
 
-use crate::priority::priority;
+use crate::priority::{priority, salted};
 
-/// Rising keys that lie so deep. The range of priorities is cut into a band for each
-/// depth, and each key is the next whose priority is in its band; between two keys of one
-/// depth there is always one of a lesser. Instead of depths, the keys' places in the order
-/// of outranking will do.
-pub fn keys_at(depths: &[usize]) -> Vec<u64> {
+/// Rising keys that lie so deep under the salt. The range of priorities is cut into a band
+/// for each depth, and each key is the next whose priority is in its band; between two keys
+/// of one depth there is always one of a lesser. Instead of depths, the keys' places in the
+/// order of outranking will do.
+pub fn keys_at(salt: u64, depths: &[usize]) -> Vec<u64> {
     let bands = depths.iter().max().map_or(1, |deepest| deepest + 1);
+    let priority = salted(&priority, salt);
     let band = |key| ((u128::from(priority(key)) * bands as u128) >> 64) as usize;
     let mut later = 1..;
     let next_at = |&depth: &usize| later.find(|&key| band(key) == bands - 1 - depth);

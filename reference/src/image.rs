@@ -1,29 +1,25 @@
-//! Document 01, section "Image", with the measures of document 02.
+//! Document 01, section "Image", with the measures and the salt of document 02.
 
 use crate::blocks::blocks;
 use crate::measure::Measure;
 use crate::priority::Priority;
-use crate::shape::Node;
+use crate::shape::{Node, Shape};
 use crate::table::shape_of;
 use crate::{is_order, Contents, Set, MOST_SLOTS};
 
 const HEADER: usize = 15;
+/// A header with "the salt's eight bytes after the root key".
+const SALTED_HEADER: usize = HEADER + 8;
 const BLOCK: usize = 14;
 const NODE: usize = 30;
 const MEASURED_NODE: usize = 36;
 
-/// The image of an order and a set. "One header, then blocks by falling level,
+/// The image of an order and a set under a salt. "One header, then blocks by falling level,
 /// then rising leader; after each block its keys, rising."
 pub fn image(priority: Priority, contents: &Contents) -> Vec<u8> {
     let shape = shape_of(priority, contents);
     let blocks = blocks(&shape);
-    let mut bytes = vec![];
-    // "`LH`: order (1 byte), n (2), blocks (2), root key (8)."
-    bytes.extend(b"LH");
-    bytes.push(u8::try_from(contents.order).unwrap());
-    bytes.extend(two(contents.set.len() as u64));
-    bytes.extend(two(blocks.len() as u64));
-    bytes.extend(eight(shape.root));
+    let mut bytes = header(contents, &shape, blocks.len());
     for block in &blocks {
         // "`LB`: block's leader key (8), level (2), keys in it (2)."
         bytes.extend(b"LB");
@@ -35,6 +31,23 @@ pub fn image(priority: Priority, contents: &Contents) -> Vec<u8> {
         }
     }
     assert_eq!(bytes.len(), length(contents, blocks.len()));
+    bytes
+}
+
+/// "`LH`: order (1 byte), n (2), blocks (2), root key (8)." "An image with salt other
+/// than zero opens with `LS` in place of `LH`, the salt's eight bytes after the root key;
+/// salt zero keeps `LH`".
+fn header(contents: &Contents, shape: &Shape, blocks: usize) -> Vec<u8> {
+    let is_salted = contents.salt != 0;
+    let mark = if is_salted { b"LS" } else { b"LH" };
+    let mut bytes = mark.to_vec();
+    bytes.push(u8::try_from(contents.order).unwrap());
+    bytes.extend(two(contents.set.len() as u64));
+    bytes.extend(two(blocks as u64));
+    bytes.extend(eight(shape.root));
+    if is_salted {
+        bytes.extend(eight(contents.salt));
+    }
     bytes
 }
 
@@ -57,11 +70,16 @@ fn node(node: &Node, measure: Measure) -> Vec<u8> {
     bytes
 }
 
-/// "Length is 15 + 14·b + 30·n", and "6 bytes more" for each measured key.
+/// "Length is 15 + 14·b + 30·n", eight more with a salt, and "6 bytes more" for each
+/// measured key.
 fn length(contents: &Contents, blocks: usize) -> usize {
     let measures = contents.set.values();
     let measured = measures.filter(|measure| measure.is_measured()).count();
-    HEADER + BLOCK * blocks + NODE * contents.set.len() + 6 * measured
+    let header = match contents.salt {
+        0 => HEADER,
+        _ => SALTED_HEADER,
+    };
+    header + BLOCK * blocks + NODE * contents.set.len() + 6 * measured
 }
 
 /// "numbers are little-endian"
@@ -77,21 +95,22 @@ fn eight(number: u64) -> [u8; 8] {
     number.to_le_bytes()
 }
 
-/// The order and set whose image the bytes are; none when the image "is not one
-/// that the writer makes for any order and any set of at most 4,096 keys".
+/// The order, salt and set whose image the bytes are; none when the image "is not one
+/// that the writer makes for any order and any set of at most 4,096 keys". "`LS` with zero
+/// gives 6": the writer makes no such image.
 pub fn contents_of(priority: Priority, bytes: &[u8]) -> Option<Contents> {
     let contents = candidate(bytes)?;
     let possible = is_order(contents.order) && contents.set.len() <= MOST_SLOTS;
     (possible && image(priority, &contents) == bytes).then_some(contents)
 }
 
-/// The only order and set whose image the bytes can be: the header's order, and
-/// the key and the measure of each node record. None when the bytes are no sequence
-/// of records, and where a measure is outside the rules.
+/// The only order, salt and set whose image the bytes can be: the header's order and
+/// salt, and the key and the measure of each node record. None when the bytes are no
+/// sequence of records, and where a measure is outside the rules.
 fn candidate(bytes: &[u8]) -> Option<Contents> {
     let order = *bytes.get(2)? as u64;
+    let (salt, mut rest) = after_header(bytes)?;
     let mut set = Set::new();
-    let mut rest = bytes.get(HEADER..)?;
     while !rest.is_empty() {
         if rest.starts_with(b"LB") {
             rest = rest.get(BLOCK..)?;
@@ -110,7 +129,19 @@ fn candidate(bytes: &[u8]) -> Option<Contents> {
     if set.contains_key(&0) {
         return None;
     }
-    Some(Contents { order, set })
+    Some(Contents { order, salt, set })
+}
+
+/// The salt of the header, and the records after it; none when there is no header.
+fn after_header(bytes: &[u8]) -> Option<(u64, &[u8])> {
+    match bytes.get(..2)? {
+        b"LH" => Some((0, bytes.get(HEADER..)?)),
+        b"LS" => {
+            let salt = number(bytes.get(HEADER..SALTED_HEADER)?);
+            Some((salt, &bytes[SALTED_HEADER..]))
+        }
+        _ => None,
+    }
 }
 
 /// The number that these bytes are, the lowest first.

@@ -1,12 +1,13 @@
 //! The second program: the index of document 01 with the load, the batch, the
-//! measures, the sizes, the pages, the promised ceiling and the fill of document 02,
-//! written from these documents alone. Slow and literal; it is there to be compared
-//! with.
+//! measures, the sizes, the pages, the promised ceiling, the fill and the salts of
+//! document 02, written from these documents alone. Slow and literal; it is there to be
+//! compared with.
 //!
 //! The priority is a parameter of every definition, so that the document's
 //! examples, which write their own priorities, can be computed too.
 
 pub mod batch;
+pub mod before_salts;
 pub mod blocks;
 pub mod calls;
 pub mod ceiling;
@@ -31,18 +32,25 @@ use std::collections::BTreeMap;
 /// "A set, the book's too, is now one of keys with their measures."
 pub type Set = BTreeMap<u64, Measure>;
 
-/// An order and a set.
+/// An order, a salt and a set: "the book also keeps the salt".
 #[derive(Clone, Debug, PartialEq, Eq)]
 pub struct Contents {
     pub order: u64,
+    pub salt: u64,
     pub set: Set,
 }
 
 impl Contents {
-    /// An order and keys of which none is measured.
+    /// An order, the salt zero and keys of which none is measured.
     pub fn unmeasured(order: u64, keys: &[u64]) -> Contents {
         let set = keys.iter().map(|&key| (key, Measure::NONE)).collect();
-        Contents { order, set }
+        let salt = 0;
+        Contents { order, salt, set }
+    }
+
+    /// The same order and set under another salt.
+    pub fn salted(self, salt: u64) -> Contents {
+        Contents { salt, ..self }
     }
 
     /// The keys, rising.

@@ -11,7 +11,7 @@ use crate::Contents;
 /// a block line shows the block's leader key, level and keys in it. Every line
 /// the program prints ends in a line feed. Keys are 16 hexadecimal digits,
 /// letters capital; other numbers are base ten without leading zeros." "The listing's
-/// lines show no measures".
+/// lines show no measures"; "the listing shows no salt".
 pub fn listing(priority: Priority, contents: &Contents) -> String {
     let shape = shape_of(priority, contents);
     let blocks = blocks(&shape);

@@ -8,6 +8,9 @@ use std::iter::successors;
 /// A load's keys are 1 to this.
 pub const GREATEST_KEY: u64 = 512;
 
+/// "Loads use salt zero" (N9).
+pub const NO_SALT: u64 = 0;
+
 /// One operation of a load, with its key.
 #[derive(Clone, Copy, Debug, PartialEq, Eq)]
 pub enum Operation {

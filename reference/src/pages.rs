@@ -12,7 +12,7 @@ use crate::Contents;
 /// "then 50 key lines"
 pub const KEYS_OF_A_PAGE: usize = 50;
 
-/// The pages of an order and a set: 50 key lines on each, "rising; the last page may
+/// The pages of an order and a set under a salt: 50 key lines on each, "rising; the last page may
 /// have fewer, but has at least one".
 pub fn pages(priority: Priority, contents: &Contents) -> String {
     let shape = shape_of(priority, contents);

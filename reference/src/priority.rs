@@ -1,4 +1,4 @@
-//! Document 01, section "Priority".
+//! Document 01, section "Priority", with the salt of document 02.
 
 /// "E[0] = 1442695040888963407, and each next is 6364136223846793005 times the
 /// one before, plus 1442695040888963407, modulo 2^64."
@@ -32,6 +32,12 @@ pub fn priority(key: u64) -> u64 {
 /// What is asked of a priority function, real or written by an example.
 pub type Priority<'a> = &'a (dyn Fn(u64) -> u64 + Sync);
 
+/// Document 02, N9: "The priority of k, in its home too, becomes P of the exclusive or
+/// of k and the salt." Which key is the lesser of two is no matter of the salt.
+pub fn salted(priority: Priority<'_>, salt: u64) -> impl Fn(u64) -> u64 + Sync + '_ {
+    move |key| priority(key ^ salt)
+}
+
 /// A key with its priority.
 #[derive(Clone, Copy, Debug, PartialEq, Eq)]
 pub struct Entry {
@@ -63,7 +69,8 @@ pub fn entries(priority: Priority, keys: &[u64]) -> Vec<Entry> {
 
 /// Some pairs of keys of equal priority, the lesser first, for tests of the tie
 /// rule; found by `examples/find_ties.rs`. Exchanging the two keys' bytes at
-/// any one place makes another such pair.
+/// any one place makes another such pair. Under a salt it is their exclusive or with
+/// the salt that have equal priorities.
 pub const TIES: [(u64, u64); 8] = [
     (0x055A050E17548921, 0x08DFDFD4FFCCD72F),
     (0x45A9723C5530099B, 0xF8CCF9C7B9749DE7),

@@ -9,11 +9,11 @@ use std::io::{self, Read, Write};
 /// "The listing program reads an image on standard input, into 1,000 slots."
 pub const SLOTS: usize = 1000;
 
-/// "More than 44,015 bytes prints `too long`"; "its byte limit becomes 50,015".
-pub const LONGEST_INPUT: usize = 50_015;
+/// "More than 44,015 bytes prints `too long`"; now "its byte limit is 50,023".
+pub const LONGEST_INPUT: usize = 50_023;
 
-/// All that is printed for an input: the text of the order and the set whose image
-/// it is.
+/// All that is printed for an input: the text of the order, the salt and the set whose
+/// image it is.
 pub fn printed(index: &Index, input: &[u8], text: impl FnOnce(&Contents) -> String) -> String {
     if input.len() > LONGEST_INPUT {
         return "too long\n".to_string();

@@ -53,9 +53,9 @@ fn random_sets(seed: u64, tries: u64, most: u64) {
     for _ in 0..tries {
         let keys = random.keys(most);
         let order = [3, 3, 3, 4, 5, 8, 255][random.below(7) as usize];
-        let salt = random.next();
+        let seed = random.next();
         let spread = [1, 2, 5, 20, u64::MAX][random.below(5) as usize];
-        let written = move |key: u64| Random(key ^ salt).next() % spread;
+        let written = move |key: u64| Random(key ^ seed).next() % spread;
         forms_agree(order, &keys, &written);
         forms_agree(order, &keys, &priority);
     }

@@ -267,7 +267,7 @@ fn refusals_of_a_batch() {
     let sound = table_of(2, 3, &[4, 9]);
     let mut unsound = sound.clone();
     unsound[1] += 1;
-    let short = sound[..18].to_vec();
+    let short = sound[..sound.len() - 1].to_vec();
     let bad: [&[u64]; 8] = [
         &[0],
         &[0, 1],

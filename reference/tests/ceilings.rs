@@ -8,6 +8,7 @@ use common::{falling_priorities, permutations, rising_priorities, Random};
 use reference::blocks::blocks_met;
 use reference::calls::{LookUpReply, PlainReply, REAL};
 use reference::ceiling::{blocks_ceiling, rank_ceiling};
+use reference::depths::keys_at;
 use reference::fast;
 use reference::table::{length_of_slots, shape_of};
 use reference::{Contents, MOST_SLOTS};
@@ -19,14 +20,14 @@ struct Library {
     look_up: fn(&[u64], u64) -> LookUpReply,
 }
 
-/// The table of an order and rising keys, in as many slots: by the literal calls and
-/// by the fast form.
-fn by_both_forms(order: u64, keys: &[u64]) -> [Library; 2] {
+/// The table of an order, a salt and rising keys, in as many slots: by the literal calls
+/// and by the fast form.
+fn by_both_forms(order: u64, salt: u64, keys: &[u64]) -> [Library; 2] {
     let (lengths, corrections) = (vec![0; keys.len()], vec![0; keys.len()]);
     let (mut one, mut other) = (blank(keys.len()), blank(keys.len()));
     let replies = [
-        REAL.build(&mut one, order, keys, &lengths, &corrections),
-        fast::build(&mut other, order, keys, &lengths, &corrections),
+        REAL.build(&mut one, order, salt, keys, &lengths, &corrections),
+        fast::build(&mut other, order, salt, keys, &lengths, &corrections),
     ];
     assert_eq!(replies, [PlainReply::default(); 2]);
     [
@@ -134,9 +135,9 @@ fn most_blocks(order: u64, keys: u64, root_rank: u64) -> u64 {
 
 /// Both forms stay within the ceilings; gives how many lookups meet the most blocks.
 #[track_caller]
-fn stays_within(order: u64, keys: &[u64], asked: &[u64]) -> usize {
+fn stays_within(order: u64, salt: u64, keys: &[u64], asked: &[u64]) -> usize {
     let mut reached = 0;
-    for library in by_both_forms(order, keys) {
+    for library in by_both_forms(order, salt, keys) {
         let most = most_blocks(order, keys.len() as u64, library.root_rank());
         for &key in asked {
             let blocks = library.blocks(key);
@@ -166,7 +167,8 @@ fn random_sets(seed: u64, tries: u64, most: u64) {
             let mut set = BTreeSet::from_iter(random.keys(most));
             set.insert(random.key(most));
             let keys: Vec<u64> = set.into_iter().collect();
-            reached += stays_within(order, &keys, &with_others(&keys));
+            let salt = random.salt(&keys);
+            reached += stays_within(order, salt, &keys, &with_others(&keys));
         }
         assert!(reached > 0, "{order}");
     }
@@ -193,7 +195,7 @@ fn the_fullest_tables_stay_within() {
     for order in ORDERS {
         let keys = random.most_keys();
         let some: Vec<u64> = keys.iter().copied().step_by(100).collect();
-        stays_within(order, &keys, &with_others(&some));
+        stays_within(order, keys[0], &keys, &with_others(&some));
     }
 }
 
@@ -227,9 +229,9 @@ fn of_all_small_treaps_none_is_beyond_and_one_is_at_the_ceilings() {
 /// By both forms the root has just the rank's ceiling, and the lookup of the deepest key
 /// meets just the blocks' ceiling.
 #[track_caller]
-fn reaches(order: u64, keys: &[u64], deepest: u64) {
+fn reaches(order: u64, salt: u64, keys: &[u64], deepest: u64) {
     let number = keys.len() as u64;
-    for library in by_both_forms(order, keys) {
+    for library in by_both_forms(order, salt, keys) {
         let rank = library.root_rank();
         assert_eq!(rank, rank_ceiling(order, number), "{order} {number}");
         let most = blocks_ceiling(order, number, rank);
@@ -242,8 +244,8 @@ fn reaches(order: u64, keys: &[u64], deepest: u64) {
 fn chains_reach(order: u64, numbers: impl Iterator<Item = usize>) {
     let (falling, rising) = (falling_priorities(), rising_priorities());
     for number in numbers {
-        reaches(order, &falling[..number], falling[number - 1]);
-        reaches(order, &rising[..number], rising[0]);
+        reaches(order, 0, &falling[..number], falling[number - 1]);
+        reaches(order, 0, &rising[..number], rising[0]);
     }
 }
 
@@ -274,11 +276,24 @@ fn long_chains_reach_it() {
     }
 }
 
+/// Chains are other keys under another salt, and reach it all the same.
+#[test]
+fn chains_under_a_salt_reach_it() {
+    for salt in [1, 1 << 63, u64::MAX, 0x5EED] {
+        for order in [3, 8, 255] {
+            for number in [1, 2, 3, 20, 255, 256] {
+                let keys = keys_at(salt, &Vec::from_iter(0..number));
+                reaches(order, salt, &keys, keys[number - 1]);
+            }
+        }
+    }
+}
+
 #[test]
 fn the_fullest_chains_reach_its_figures() {
     let keys = falling_priorities();
     for (order, most) in FULLEST {
-        for library in by_both_forms(order, &keys) {
+        for library in by_both_forms(order, 0, &keys) {
             assert_eq!(library.root_rank(), most);
             assert_eq!(library.blocks(keys[4095]), most);
             assert_eq!(library.blocks(keys[4095] + 1), most);
@@ -295,7 +310,7 @@ fn the_fullest_chains_reach_its_figures() {
 fn an_empty_table_meets_none() {
     for order in [3, 4, 8, 255] {
         assert_eq!(blocks_ceiling(order, 0, 0), 0);
-        for library in by_both_forms(order, &[]) {
+        for library in by_both_forms(order, order, &[]) {
             for key in [1, 2, 4096, u64::MAX] {
                 assert_eq!(library.look_up(key), LookUpReply::default());
             }

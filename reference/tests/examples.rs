@@ -193,17 +193,17 @@ fn example_h() {
     };
     for insertions in [[6, 8], [8, 6]] {
         let mut table = vec![99; length_of_slots(3)];
-        assert_eq!(index.set_up(&mut table, 3).refusal, 0);
+        assert_eq!(index.set_up(&mut table, 3, 0).refusal, 0);
         for key in insertions {
             assert_eq!(index.insert_unmeasured(&mut table, key).refusal, 0);
         }
         let both = [[6, 0, 0, 8, 0, 1, 0, 0], [0; 8], [8, 6, 0, 0, 1, 1, 0, 0]];
-        let both = [vec![3, 2, 8], both.concat()].concat();
+        let both = [vec![3, 2, 8, 0], both.concat()].concat();
         assert_eq!(table, both);
         let deleted = index.delete(&mut table, 8);
         assert_eq!((deleted.refusal, deleted.rank), (0, 1));
         let one = [[0; 8], [0; 8], [6, 0, 0, 0, 0, 1, 0, 0]];
-        let one = [vec![3, 1, 6], one.concat()].concat();
+        let one = [vec![3, 1, 6, 0], one.concat()].concat();
         assert_eq!(table, one);
     }
 }
@@ -231,19 +231,19 @@ fn the_lesser_of_a_real_tie_outranks() {
 
 #[test]
 fn lengths_and_orders() {
-    let set_up = |length, order| REAL.set_up(&mut vec![1; length], order).refusal;
-    for length in [11, 32_771] {
+    let set_up = |length, order| REAL.set_up(&mut vec![1; length], order, 0).refusal;
+    for length in [12, 32_772] {
         assert_eq!(set_up(length, 3), 0);
     }
-    for length in [0, 3, 10, 12, 32_779] {
+    for length in [0, 4, 11, 13, 32_780] {
         assert_eq!(set_up(length, 3), 1);
     }
-    let by_order = [3, 255, 2, 256].map(|order| set_up(11, order));
+    let by_order = [3, 255, 2, 256].map(|order| set_up(12, order));
     assert_eq!(by_order, [0, 0, 2, 2]);
-    assert_eq!(set_up(10, 2), 1);
-    let mut table = vec![7; 19];
-    REAL.set_up(&mut table, 255);
-    assert_eq!(table, [vec![255], vec![0; 18]].concat());
+    assert_eq!(set_up(11, 2), 1);
+    let mut table = vec![7; 20];
+    REAL.set_up(&mut table, 255, 0);
+    assert_eq!(table, [vec![255], vec![0; 19]].concat());
 }
 
 const LISTING_OF_B: &str = "\
@@ -267,8 +267,8 @@ fn listing_of_b() {
 
 #[test]
 fn listing_refuses() {
-    assert_eq!(program(&REAL, &[0; 50_016]), "too long\n");
-    assert_eq!(program(&REAL, &[0; 50_015]), "refused 6\n");
+    assert_eq!(program(&REAL, &[0; 50_024]), "too long\n");
+    assert_eq!(program(&REAL, &[0; 50_023]), "refused 6\n");
     assert_eq!(program(&REAL, &[]), "refused 6\n");
     let mut output = vec![b'~'; LISTING_OF_B.len() - 1];
     let reply = REAL.list(&image_of_b(), &mut output);
@@ -289,7 +289,7 @@ fn listing_of_nothing_and_of_too_many_keys() {
         *"order 255 keys 1000 "
     );
     let unlisted = image(&priority, &many(1001));
-    assert!(unlisted.len() <= 50_015);
+    assert!(unlisted.len() <= 50_023);
     assert_eq!(program(&REAL, &unlisted), "refused 10\n");
 }
 

@@ -7,13 +7,22 @@ mod common;
 use common::{measure_bytes, Random, WRONG};
 use reference::batch::Question;
 use reference::calls::{Place, REAL};
+use reference::depths::keys_at;
 use reference::fast;
 use reference::image::image;
 use reference::measure::Measure;
 use reference::priority::{entries, priority, TIES};
 use reference::shape::shape;
-use reference::table::{length_of_slots, slots, slots_of_length, SLOT_WORDS};
+use reference::table::{length_of_slots, slots, slots_of_length, HEADER_WORDS, SLOT_WORDS};
 use reference::Contents;
+
+/// The bytes of a header with a salt.
+const LONGEST_HEADER: usize = 23;
+
+/// The word in which a slot begins with its key.
+fn slot_start(slot: usize) -> usize {
+    HEADER_WORDS + SLOT_WORDS * slot
+}
 
 /// What a call leaves behind: its reply, and the memory that it was lent.
 type Left<R, T> = (R, Vec<T>);
@@ -28,10 +37,10 @@ fn after<R, T: Clone>(before: &[T], call: impl FnOnce(&mut [T]) -> R) -> Left<R,
 // ---------------------------------------------------------------------------
 // Each call by both programs
 
-fn set_up(table: &mut Vec<u64>, order: u64) -> u64 {
-    let (reply, words) = after(table, |t| REAL.set_up(t, order));
+fn set_up(table: &mut Vec<u64>, order: u64, salt: u64) -> u64 {
+    let (reply, words) = after(table, |t| REAL.set_up(t, order, salt));
     assert_eq!(
-        after(table, |t| fast::set_up(t, order)),
+        after(table, |t| fast::set_up(t, order, salt)),
         (reply, words.clone())
     );
     *table = words;
@@ -40,26 +49,35 @@ fn set_up(table: &mut Vec<u64>, order: u64) -> u64 {
 
 fn build_lists(
     table: &mut Vec<u64>,
-    order: u64,
+    (order, salt): (u64, u64),
     keys: &[u64],
     lengths: &[u64],
     corrections: &[i32],
 ) -> u64 {
-    let (reply, words) = after(table, |t| REAL.build(t, order, keys, lengths, corrections));
+    let (reply, words) = after(table, |t| {
+        REAL.build(t, order, salt, keys, lengths, corrections)
+    });
     assert_eq!(
-        after(table, |t| fast::build(t, order, keys, lengths, corrections)),
+        after(table, |t| fast::build(
+            t,
+            order,
+            salt,
+            keys,
+            lengths,
+            corrections
+        )),
         (reply, words.clone())
     );
     *table = words;
     reply.refusal
 }
 
-/// The build of an order and a set.
+/// The build of an order, a salt and a set.
 fn build_set(table: &mut Vec<u64>, contents: &Contents) -> u64 {
     let (lengths, corrections) = (contents.lengths(), contents.corrections());
     build_lists(
         table,
-        contents.order,
+        (contents.order, contents.salt),
         &contents.keys(),
         &lengths,
         &corrections,
@@ -67,9 +85,9 @@ fn build_set(table: &mut Vec<u64>, contents: &Contents) -> u64 {
 }
 
 /// The build of keys, rising or not, of which none is measured.
-fn build(table: &mut Vec<u64>, order: u64, keys: &[u64]) -> u64 {
+fn build(table: &mut Vec<u64>, order: u64, salt: u64, keys: &[u64]) -> u64 {
     let (lengths, corrections) = (vec![0; keys.len()], vec![0; keys.len()]);
-    build_lists(table, order, keys, &lengths, &corrections)
+    build_lists(table, (order, salt), keys, &lengths, &corrections)
 }
 
 fn load(table: &mut Vec<u64>, order: u64, seed: u64, count: u16) -> u64 {
@@ -214,7 +232,7 @@ fn play(random: &mut Random, table: &mut Vec<u64>, slots: u64) {
         12 => drop(range(table, key, other, random.below(slots + 2) as usize)),
         13 => steps(table, Place::new(key, other)),
         14 => {
-            let (_, bytes) = write(table, 15 + 50 * slots as usize);
+            let (_, bytes) = write(table, LONGEST_HEADER + 50 * slots as usize);
             list(&bytes, 100 + 80 * bytes.len());
             read(table, &bytes);
         }
@@ -227,7 +245,10 @@ fn play(random: &mut Random, table: &mut Vec<u64>, slots: u64) {
             read(table, &bytes);
             list(&bytes, random.below(3_000) as usize);
         }
-        19 => drop(set_up(table, 2 + random.below(255))),
+        19 => {
+            let (order, salt) = (2 + random.below(255), random.salt(&[key]));
+            set_up(table, order, salt);
+        }
         20 => drop(look_up_batch(table, &random.keys(2 * slots))),
         21 => {
             let mut keys = random.keys(slots);
@@ -252,14 +273,15 @@ fn play_build(random: &mut Random, table: &mut Vec<u64>, slots: u64) {
     match random.below(4) {
         0 => {
             random.shuffle(&mut keys);
-            build(table, 255 + random.below(2), &keys);
+            build(table, 255 + random.below(2), contents.salt, &keys);
             return;
         }
         1 => {
             let (mut lengths, mut corrections) = (contents.lengths(), contents.corrections());
             lengths.resize(random.below(slots + 2) as usize, 0);
             corrections.resize(random.below(slots + 2) as usize, 0);
-            build_lists(table, contents.order, &keys, &lengths, &corrections);
+            let order_and_salt = (contents.order, contents.salt);
+            build_lists(table, order_and_salt, &keys, &lengths, &corrections);
             return;
         }
         2 if !keys.is_empty() => {
@@ -275,7 +297,7 @@ fn histories(seed: u64, slots: u64, number: u64, calls: u64) {
     let mut random = Random(seed);
     for _ in 0..number {
         let mut table = vec![random.next(); length_of_slots(slots as usize)];
-        set_up(&mut table, 3 + random.below(3));
+        set_up(&mut table, 3 + random.below(3), random.salt(&[]));
         for _ in 0..calls {
             play(&mut random, &mut table, slots);
         }
@@ -304,7 +326,7 @@ fn all_sets_over_a_small_universe() {
     for set in 0..128u64 {
         let mut keys: Vec<u64> = (1..=7).filter(|key| set >> (key - 1) & 1 == 1).collect();
         let mut table = vec![0; length_of_slots(7)];
-        set_up(&mut table, 3);
+        set_up(&mut table, 3, random.salt(&[1, 7]));
         random.shuffle(&mut keys);
         keys.iter()
             .for_each(|&key| assert_eq!(insert(&mut table, key), 0));
@@ -359,7 +381,7 @@ fn great_tables() {
     let mut random = Random(400);
     for (slots, number, order) in [(4096, 4096, 3), (4096, 4000, 16), (1000, 999, 255)] {
         let keys = distinct(number, || random.next().max(1));
-        great_table(slots, order, &keys);
+        great_table(slots, order, random.salt(&keys), &keys);
     }
 }
 
@@ -369,7 +391,7 @@ fn great_tables_of_measured_keys() {
     let mut random = Random(401);
     for order in [3, 255] {
         let keys = distinct(4096, || random.next().max(1));
-        let mut contents = Contents::unmeasured(order, &keys);
+        let mut contents = Contents::unmeasured(order, &keys).salted(keys[77]);
         let measures = contents.set.values_mut();
         measures.for_each(|measure| *measure = random.measured());
         let mut table = vec![7; length_of_slots(4096)];
@@ -377,7 +399,7 @@ fn great_tables_of_measured_keys() {
         look_up(&table, keys[7]);
         delete(&mut table, keys[7]);
         insert_measured(&mut table, keys[7], contents.set[&keys[7]]);
-        let (refusal, bytes) = write(&table, 15 + 50 * 4096);
+        let (refusal, bytes) = write(&table, LONGEST_HEADER + 50 * 4096);
         assert_eq!((refusal, bytes == image(&priority, &contents)), (0, true));
         assert_eq!(list(&bytes, 1 << 20), 0);
         let before = table.clone();
@@ -390,35 +412,25 @@ fn great_tables_of_measured_keys() {
 /// Keys whose homes are the same, so that they stand in one cluster.
 #[test]
 fn one_home() {
-    for slots in [700, 1024] {
+    for (slots, salt) in [(700, 0), (1024, 0x7000_0100)] {
         let mut key = 0x7000_0000;
         let keys = distinct(600, || loop {
             key += 1;
-            if priority(key) / 65_536 % slots as u64 == slots as u64 - 20 {
+            if priority(key ^ salt) / 65_536 % slots as u64 == slots as u64 - 20 {
                 return key;
             }
         });
-        great_table(slots, 3, &keys);
+        great_table(slots, 3, salt, &keys);
     }
 }
 
-/// Keys whose treap is a path down to the right: each next key is the first
-/// whose priority lies in the next lower band.
+/// Keys whose treap is a path down to the right.
 #[test]
 fn a_chain() {
-    const BANDS: u64 = 500;
-    let mut key = 0;
-    let mut keys = vec![];
-    for band in (0..BANDS).rev() {
-        let width = u64::MAX / BANDS;
-        while priority(key) / width != band || key == 0 {
-            key += 1;
-        }
-        keys.push(key);
-        key += 1;
+    for (slots, order, salt) in [(512, 3, 0), (500, 7, 0), (512, 3, 1 << 63), (500, 7, 77)] {
+        let keys = keys_at(salt, &Vec::from_iter(0..500));
+        great_table(slots, order, salt, &keys);
     }
-    great_table(512, 3, &keys);
-    great_table(500, 7, &keys);
 }
 
 fn distinct(number: usize, mut draw: impl FnMut() -> u64) -> Vec<u64> {
@@ -429,9 +441,9 @@ fn distinct(number: usize, mut draw: impl FnMut() -> u64) -> Vec<u64> {
     keys.into_iter().collect()
 }
 
-fn great_table(slots: usize, order: u64, keys: &[u64]) {
+fn great_table(slots: usize, order: u64, salt: u64, keys: &[u64]) {
     let mut table = vec![7; length_of_slots(slots)];
-    assert_eq!(build(&mut table, order, keys), 0);
+    assert_eq!(build(&mut table, order, salt, keys), 0);
     for &key in keys.iter().step_by(keys.len() / 3) {
         assert_eq!(look_up(&table, key), 0);
         assert_eq!(look_up(&table, key - 1), 0);
@@ -445,7 +457,7 @@ fn great_table(slots: usize, order: u64, keys: &[u64]) {
     assert_eq!(range(&table, keys[3], keys[9], 7), 0);
     step(&table, Place::new(keys[5] + 1, u64::MAX));
     assert_eq!(pages(&table, 10 + 50 * slots), 0);
-    let (refusal, bytes) = write(&table, 15 + 50 * slots);
+    let (refusal, bytes) = write(&table, LONGEST_HEADER + 50 * slots);
     assert_eq!(refusal, 0);
     assert_eq!(list(&bytes, 100 * keys.len() + 100), 0);
     table.fill(1);
@@ -512,8 +524,8 @@ fn each_measure_changed() {
             for length in [0, 1, 9_999, 10_000, 40_000, 40_001, u64::MAX] {
                 for correction in [0, 1, 5_000, 10_000, 10_001, u64::MAX] {
                     let mut damaged = table.clone();
-                    damaged[3 + 8 * slot + 6] = length;
-                    damaged[3 + 8 * slot + 7] = correction;
+                    damaged[slot_start(slot) + 6] = length;
+                    damaged[slot_start(slot) + 7] = correction;
                     refusals[(judged(&damaged) == 7) as usize] += 1;
                 }
             }
@@ -550,10 +562,11 @@ fn each_two_slots_exchanged_or_doubled() {
         for a in 0..slots {
             for b in 0..slots {
                 let mut damaged = table.clone();
-                (0..SLOT_WORDS).for_each(|word| damaged.swap(3 + 8 * a + word, 3 + 8 * b + word));
+                let [from, to] = [a, b].map(slot_start);
+                (0..SLOT_WORDS).for_each(|word| damaged.swap(from + word, to + word));
                 judged(&damaged);
                 damaged = table.clone();
-                damaged.copy_within(3 + 8 * a..11 + 8 * a, 3 + 8 * b);
+                damaged.copy_within(from..from + SLOT_WORDS, to);
                 judged(&damaged);
                 damaged[1] += 1;
                 judged(&damaged);
@@ -568,8 +581,8 @@ fn subtrees_exchanged_between_parents() {
     let mut random = Random(503);
     for _ in 0..30 {
         let table = random_table(&mut random, 40);
-        let links: Vec<usize> = (3..table.len())
-            .filter(|i| matches!((i - 3) % SLOT_WORDS, 1 | 2))
+        let links: Vec<usize> = (HEADER_WORDS..table.len())
+            .filter(|i| matches!((i - HEADER_WORDS) % SLOT_WORDS, 1 | 2))
             .collect();
         for _ in 0..200 {
             let mut damaged = table.clone();
@@ -591,10 +604,10 @@ fn trees_of_other_priorities() {
     let mut unsound = 0;
     for _ in 0..400 {
         let keys = random.keys(9);
-        let salt = random.next();
-        let other = move |key: u64| Random(key ^ salt).next();
+        let seed = random.next();
+        let other = move |key: u64| Random(key ^ seed).next();
         let tree = shape(3, &entries(&other, &keys));
-        let mut table = vec![3, keys.len() as u64, tree.root];
+        let mut table = vec![3, keys.len() as u64, tree.root, 0];
         for key in slots(&entries(&priority, &keys), 10) {
             table.extend(match tree.node(key) {
                 None => [0; 8],
@@ -635,7 +648,16 @@ fn damaged_images() {
             read(&mut table, &bytes[..i]);
             list(&bytes[..i], 2_000);
         }
-        for more in [&[0][..], b"LB", b"LN", b"LM", &bytes, &[0; 14], &[0; 6]] {
+        for more in [
+            &[0][..],
+            b"LB",
+            b"LN",
+            b"LM",
+            &bytes,
+            &[0; 14],
+            &[0; 6],
+            &[0; 8],
+        ] {
             let longer = [&bytes, more].concat();
             assert_eq!(read(&mut table, &longer), 6);
             assert_eq!(list(&longer, 2_000), 6);
@@ -686,11 +708,11 @@ fn damaged_measures_of_images() {
 
 #[test]
 fn wrong_lengths() {
-    for length in [0, 1, 2, 3, 10, 12, 18, 32_770, 32_772, 32_779] {
+    for length in [0, 1, 3, 4, 11, 13, 19, 32_771, 32_773, 32_780] {
         let mut wrong = vec![0; length];
-        assert_eq!(set_up(&mut wrong, 2), 1);
-        assert_eq!(build(&mut wrong, 2, &[0]), 1);
-        assert_eq!(build_lists(&mut wrong, 2, &[0], &[], &[]), 1);
+        assert_eq!(set_up(&mut wrong, 2, 5), 1);
+        assert_eq!(build(&mut wrong, 2, 5, &[0]), 1);
+        assert_eq!(build_lists(&mut wrong, (2, 5), &[0], &[], &[]), 1);
         assert_eq!(insert_measured(&mut wrong, 0, WRONG[0]), 1);
         assert_eq!(load(&mut wrong, 2, 7, 3), 1);
         assert_eq!(insert(&mut wrong, 0), 1);
@@ -709,9 +731,9 @@ fn wrong_lengths() {
 fn every_other_refusal_by_the_input() {
     let mut table = vec![9; length_of_slots(2)];
     for order in [0, 1, 2, 256, u64::MAX] {
-        assert_eq!(set_up(&mut table, order), 2);
-        assert_eq!(build(&mut table, order, &[0, 0]), 2);
-        assert_eq!(build_lists(&mut table, order, &[0], &[], &[]), 2);
+        assert_eq!(set_up(&mut table, order, 5), 2);
+        assert_eq!(build(&mut table, order, 5, &[0, 0]), 2);
+        assert_eq!(build_lists(&mut table, (order, 5), &[0], &[], &[]), 2);
         assert_eq!(load(&mut table, order, 7, 3), 2);
     }
     assert_eq!(insert(&mut table, 0), 3);
@@ -730,11 +752,11 @@ fn every_other_refusal_by_the_input() {
         &[2, 1],
         &[1, 2, 3, 3],
     ] {
-        assert_eq!(build(&mut table, 3, list), 5);
-        assert_eq!(build_lists(&mut table, 3, list, &[1], &[]), 5);
+        assert_eq!(build(&mut table, 3, 5, list), 5);
+        assert_eq!(build_lists(&mut table, (3, 5), list, &[1], &[]), 5);
         assert_eq!(look_up_batch(&table, list), 5);
     }
-    assert_eq!(build(&mut table, 3, &[1, 2, 3]), 10);
+    assert_eq!(build(&mut table, 3, 5, &[1, 2, 3]), 10);
     refused_lists(&mut table);
     assert_eq!(read(&mut table, &[]), 6);
     assert_eq!(judged(&table), 7);
@@ -745,24 +767,24 @@ fn every_other_refusal_by_the_input() {
 /// rules: 12 comes before 10.
 fn refused_lists(table: &mut Vec<u64>) {
     let keys = [1, 2, 3, 4];
+    let mut refused = |number: usize, lengths: &[u64], corrections: &[i32]| {
+        let reply = build_lists(table, (3, 5), &keys[..number], lengths, corrections);
+        assert_eq!(reply, 12);
+    };
     for number in 0..=4 {
-        let keys = &keys[..number];
         for (lengths, corrections) in [(number + 1, number), (number, number + 1), (9, 9)] {
-            let (lengths, corrections) = (vec![0; lengths], vec![0; corrections]);
-            assert_eq!(build_lists(table, 3, keys, &lengths, &corrections), 12);
+            refused(number, &vec![0; lengths], &vec![0; corrections]);
         }
     }
     for number in 1..=4 {
-        let keys = &keys[..number];
         for (lengths, corrections) in [(number - 1, number), (number, number - 1), (0, 0)] {
-            let (lengths, corrections) = (vec![0; lengths], vec![0; corrections]);
-            assert_eq!(build_lists(table, 3, keys, &lengths, &corrections), 12);
+            refused(number, &vec![0; lengths], &vec![0; corrections]);
         }
         for measure in WRONG {
             for place in 0..number {
                 let (mut lengths, mut corrections) = (vec![0; number], vec![0; number]);
                 (lengths[place], corrections[place]) = (measure.length, measure.correction);
-                assert_eq!(build_lists(table, 3, keys, &lengths, &corrections), 12);
+                refused(number, &lengths, &corrections);
             }
         }
     }
@@ -771,7 +793,7 @@ fn refused_lists(table: &mut Vec<u64>) {
 #[test]
 fn refusals_by_the_state() {
     let mut table = vec![9; length_of_slots(2)];
-    assert_eq!(build(&mut table, 3, &[4, u64::MAX]), 0);
+    assert_eq!(build(&mut table, 3, 4, &[4, u64::MAX]), 0);
     assert_eq!(insert(&mut table, 4), 8);
     let measured = Measure::new(10_000, 1);
     assert_eq!(insert_measured(&mut table, 4, measured), 8);
@@ -799,15 +821,17 @@ fn refusals_by_the_state() {
 #[test]
 fn real_ties() {
     for slots in [2, 3, 16, 17] {
-        let mut table = vec![0; length_of_slots(slots)];
-        set_up(&mut table, 3);
-        for (lesser, greater) in TIES {
-            insert(&mut table, greater);
-            insert(&mut table, lesser);
-            judged(&table);
-            if slots < 16 {
-                delete(&mut table, lesser);
-                delete(&mut table, greater);
+        for salt in [0, 1 << 63, u64::MAX, TIES[0].0 - 1] {
+            let mut table = vec![0; length_of_slots(slots)];
+            set_up(&mut table, 3, salt);
+            for (a, b) in TIES {
+                insert(&mut table, a ^ salt);
+                insert(&mut table, b ^ salt);
+                judged(&table);
+                if slots < 16 {
+                    delete(&mut table, b ^ salt);
+                    delete(&mut table, a ^ salt);
+                }
             }
         }
     }

@@ -5,7 +5,7 @@
 
 mod common;
 
-use common::{falling_priorities, permutations, rising_priorities, Random};
+use common::{falling_priorities, permutations, rising_priorities, Random, SALTS};
 use reference::blocks::fill;
 use reference::calls::{LengthReply, REAL};
 use reference::depths::{comb, full, keys_at};
@@ -73,6 +73,11 @@ fn read(text: &str) -> Listing {
 
 /// The call that lists an image.
 type List = fn(&[u8], &mut [u8]) -> LengthReply;
+
+/// An order and rising keys that lie so deep under the salt.
+fn lying_at(order: u64, salt: u64, depths: &[usize]) -> Contents {
+    Contents::unmeasured(order, &keys_at(salt, depths)).salted(salt)
+}
 
 /// The listings of an order and a set by the literal calls and by the fast form.
 fn by_both_forms(contents: &Contents) -> [Listing; 2] {
@@ -185,10 +190,12 @@ const EXAMPLES: [(&[usize], u64); 8] = [
 #[test]
 fn both_forms_list_the_examples_with_their_fill() {
     for (places, due) in EXAMPLES {
-        let contents = Contents::unmeasured(3, &keys_at(places));
-        are_right(&contents);
-        for listing in by_both_forms(&contents) {
-            assert_eq!(listing.fill, due, "{places:?}");
+        for salt in SALTS {
+            let contents = lying_at(3, salt, places);
+            are_right(&contents);
+            for listing in by_both_forms(&contents) {
+                assert_eq!(listing.fill, due, "{places:?}");
+            }
         }
     }
 }
@@ -258,8 +265,7 @@ fn all_small_treaps() {
         for number in 0..=7 {
             for places in permutations(&Vec::from_iter(0..number)) {
                 let places: Vec<usize> = places.into_iter().map(|place| place as usize).collect();
-                let keys = keys_at(&places);
-                let held = are_right(&Contents::unmeasured(order, &keys));
+                let held = are_right(&lying_at(order, number, &places));
                 most = [most[0].max(held[0]), most[1].max(held[1])];
             }
         }
@@ -318,9 +324,10 @@ fn chains() {
 #[test]
 fn combs() {
     for teeth in (1..=40).chain([500, MOST_SLOTS / 2]) {
-        let keys = keys_at(&comb(teeth));
+        let salt = teeth as u64;
+        let keys = keys_at(salt, &comb(teeth));
         for order in [3, 8, 12, 20, 21, 64, 255] {
-            are_right(&Contents::unmeasured(order, &keys));
+            are_right(&Contents::unmeasured(order, &keys).salted(salt));
         }
     }
 }
@@ -405,7 +412,7 @@ fn full_blocks_by_both_forms() {
     let mut tried = 0;
     for order in FULL_ORDERS {
         for (levels, depths) in full_libraries(order) {
-            let contents = Contents::unmeasured(order as u64, &keys_at(&depths));
+            let contents = lying_at(order as u64, levels as u64, &depths);
             for listing in by_both_forms(&contents) {
                 are_full(&listing, number_of_blocks(levels));
                 tried += 1;
@@ -421,11 +428,13 @@ fn full_blocks_by_both_forms() {
 fn one_key_fewer_than_full_is_less_than_a_hundred() {
     for order in FULL_ORDERS {
         for (levels, depths) in full_libraries(order) {
-            let mut keys = keys_at(&depths);
+            let salt = levels as u64;
+            let mut keys = keys_at(salt, &depths);
             let number = keys.len() as u64;
             let deepest = depths.iter().max();
             keys.remove(depths.iter().position(|d| Some(d) == deepest).unwrap());
-            for listing in by_both_forms(&Contents::unmeasured(order as u64, &keys)) {
+            let contents = Contents::unmeasured(order as u64, &keys).salted(salt);
+            for listing in by_both_forms(&contents) {
                 listing.is_right();
                 assert_eq!(listing.blocks.len(), number_of_blocks(levels));
                 assert_eq!(listing.fill, 100 * (number - 1) / number);

@@ -70,9 +70,10 @@ fn the_first_operation_from_seed_zero() {
 }
 
 /// "In a history a load counts as its set-up and operations."
+/// "Loads use salt zero".
 fn one_by_one(index: &Index, table: &mut [u64], order: u64, seed: u64, count: u16) -> [u64; 3] {
     let mut refused = [0; 3];
-    assert_eq!(index.set_up(table, order).refusal, 0);
+    assert_eq!(index.set_up(table, order, 0).refusal, 0);
     for operation in operations(seed, count) {
         let refusal = match operation {
             Operation::Insert(key) => index.insert_unmeasured(table, key).refusal,
@@ -135,7 +136,7 @@ fn a_load_of_nothing_is_a_set_up() {
     for load in FORMS {
         let mut table = vec![TIES[0].0; length_of_slots(2)];
         assert_eq!(load(&mut table, 255, 9, 0).refusal, 0);
-        assert_eq!(table, [vec![255], vec![0; 18]].concat());
+        assert_eq!(table, [vec![255], vec![0; 19]].concat());
     }
 }
 
@@ -144,17 +145,17 @@ fn a_load_of_nothing_is_a_set_up() {
 fn refusals_of_a_load() {
     for load in FORMS {
         for (length, order, refusal) in [
-            (11, 3, 0),
-            (11, 255, 0),
-            (32_771, 3, 0),
-            (11, 2, 2),
-            (11, 256, 2),
-            (11, u64::MAX, 2),
+            (12, 3, 0),
+            (12, 255, 0),
+            (32_772, 3, 0),
+            (12, 2, 2),
+            (12, 256, 2),
+            (12, u64::MAX, 2),
             (0, 3, 1),
-            (3, 3, 1),
-            (10, 2, 1),
-            (12, 256, 1),
-            (32_779, 3, 1),
+            (4, 3, 1),
+            (11, 2, 1),
+            (13, 256, 1),
+            (32_780, 3, 1),
         ] {
             let mut table = vec![77; length];
             assert_eq!(load(&mut table, order, 5, 100).refusal, refusal);

@@ -3,48 +3,29 @@
 
 mod common;
 
+use common::forms::{Form, FORMS};
 use common::{measure_bytes, Random, WRONG};
-use reference::calls::{LookUpReply, PlainReply, RankReply, REAL};
+use reference::calls::{RankReply, REAL};
 use reference::fast;
 use reference::image::{contents_of, image};
 use reference::listing::{listing, program};
 use reference::measure::Measure;
 use reference::priority::priority;
 use reference::program::LONGEST_INPUT;
-use reference::table::{length_of_slots, slots_of_length, words};
-use reference::{Contents, Set};
-
-/// The calls that carry measures, by one form.
-#[derive(Clone, Copy)]
-struct Form {
-    build: fn(&mut [u64], u64, &[u64], &[u64], &[i32]) -> PlainReply,
-    insert: fn(&mut [u64], u64, Measure) -> RankReply,
-    look_up: fn(&[u64], u64) -> LookUpReply,
-    read: fn(&mut [u64], &[u8]) -> PlainReply,
-}
-
-const FORMS: [Form; 2] = [
-    Form {
-        build: |t, order, keys, lengths, corrections| {
-            REAL.build(t, order, keys, lengths, corrections)
-        },
-        insert: |t, key, measure| REAL.insert(t, key, measure),
-        look_up: |t, key| REAL.look_up(t, key),
-        read: |t, bytes| REAL.read_image(t, bytes),
-    },
-    Form {
-        build: fast::build,
-        insert: fast::insert,
-        look_up: fast::look_up,
-        read: fast::read_image,
-    },
-];
+use reference::table::{length_of_slots, slots_of_length, words, HEADER_WORDS, SLOT_WORDS};
+use reference::{Contents, Set, MOST_SLOTS};
 
 fn set(entries: &[(u64, u64, i32)]) -> Contents {
     let entry =
         |&(key, length, correction): &(u64, u64, i32)| (key, Measure::new(length, correction));
     let set: Set = entries.iter().map(entry).collect();
-    Contents { order: 3, set }
+    let (order, salt) = (3, 0);
+    Contents { order, salt, set }
+}
+
+/// The word in which a slot begins with its key.
+fn slot_start(slot: usize) -> usize {
+    HEADER_WORDS + SLOT_WORDS * slot
 }
 
 // ---------------------------------------------------------------------------
@@ -99,7 +80,7 @@ fn stored_words() {
 /// "Slots gain these two words after count".
 #[test]
 fn words_of_a_slot() {
-    let mut table = vec![7; 11];
+    let mut table = vec![7; 12];
     for form in FORMS {
         for (measure, stored) in [
             (Measure::NONE, [0, 0]),
@@ -107,17 +88,15 @@ fn words_of_a_slot() {
             (Measure::new(26_500, 0), [26_500, 5_000]),
             (Measure::new(26_500, 5_000), [26_500, 10_000]),
         ] {
-            REAL.set_up(&mut table, 3);
+            REAL.set_up(&mut table, 3, 77);
             assert_eq!((form.insert)(&mut table, 5, measure).refusal, 0);
             let [length, correction] = stored;
-            assert_eq!(table, [3, 1, 5, 5, 0, 0, 0, 0, 1, length, correction]);
+            let due = [3, 1, 5, 77, 5, 0, 0, 0, 0, 1, length, correction];
+            assert_eq!(table, due);
             let lists = ([measure.length], [measure.correction]);
             table.fill(9);
-            assert_eq!(
-                (form.build)(&mut table, 3, &[5], &lists.0, &lists.1).refusal,
-                0
-            );
-            assert_eq!(table, [3, 1, 5, 5, 0, 0, 0, 0, 1, length, correction]);
+            let reply = (form.build)(&mut table, 3, 77, &[5], &lists.0, &lists.1);
+            assert_eq!((reply.refusal, &table[..]), (0, &due[..]));
             assert_eq!((form.look_up)(&table, 5).measure, measure);
         }
     }
@@ -148,30 +127,25 @@ fn lookups_of_mixed_sets() {
     }
 }
 
-/// A table of the layout before measures is mostly none: 3 + 6·M words are 3 + 8·M only
-/// for other numbers of slots. An empty one may be a blank table, though, and one of a
-/// key sound.
+/// No table of an earlier layout has a length that one has now: before measures it was
+/// 3 + 6·M, before salts 3 + 8·M, which are odd.
 #[test]
-fn the_old_layout() {
-    let old = |slots: usize| [vec![3], vec![0; 2 + 6 * slots]].concat();
-    let of_one_key = vec![3, 1, 5, 5, 0, 0, 0, 0, 1];
-    for form in FORMS {
-        assert_eq!((form.look_up)(&of_one_key, 5).refusal, 1);
-        for slots in [1, 2, 3, 5, 4095, 4093] {
-            assert_eq!((form.look_up)(&old(slots), 5).refusal, 1);
-        }
-        // Four old slots are as long as three new ones.
-        let mut four = old(4);
-        four[..9].copy_from_slice(&of_one_key);
-        assert_eq!(slots_of_length(four.len()), Some(3));
-        assert_eq!((form.look_up)(&four, 5).refusal, 7);
-        assert_eq!((form.look_up)(&old(4), 5).refusal, 0);
-        // The home of 1 is slot 0 of four and of three.
-        four[..9].copy_from_slice(&[3, 1, 1, 1, 0, 0, 0, 0, 1]);
-        assert_eq!((form.look_up)(&four, 1).refusal, 0);
+fn the_old_layouts() {
+    for slots in 1..=MOST_SLOTS {
+        let before_measures = 3 + 6 * slots;
+        let before_salts = 3 + 8 * slots;
+        assert_eq!(slots_of_length(before_measures), None);
+        assert_eq!(slots_of_length(before_salts), None);
     }
-    assert_eq!([11, 32_771].map(slots_of_length), [Some(1), Some(4096)]);
-    assert_eq!([3, 9, 10, 12, 32_779].map(slots_of_length), [None; 5]);
+    for form in FORMS {
+        for table in [
+            &[3, 1, 5, 5, 0, 0, 0, 0, 1][..],
+            &[3, 1, 5, 5, 0, 0, 0, 0, 1, 0, 0],
+            &[3, 0, 0, 0, 0, 0, 0, 0, 0, 0, 0],
+        ] {
+            assert_eq!((form.look_up)(table, 5).refusal, 1);
+        }
+    }
 }
 
 /// Every measure outside the rules in a held slot, and any in an empty one, gives 7.
@@ -181,12 +155,12 @@ fn damaged_measures_of_tables() {
     let table = words(&priority, &contents, 4);
     let refusal = |form: Form, slot: usize, words: [u64; 2]| {
         let mut damaged = table.clone();
-        damaged[3 + 8 * slot + 6..][..2].copy_from_slice(&words);
+        damaged[slot_start(slot) + 6..][..2].copy_from_slice(&words);
         (form.look_up)(&damaged, 5).refusal
     };
     for form in FORMS {
         for slot in 0..4 {
-            let is_held = table[3 + 8 * slot] != 0;
+            let is_held = table[slot_start(slot)] != 0;
             let otherwise = if is_held { 0 } else { 7 };
             assert_eq!(refusal(form, slot, [0, 0]), 0);
             for words in [[10_000, 0], [40_000, 10_000], [26_500, 5_000]] {
@@ -230,7 +204,8 @@ fn image_of_a_measured_key() {
     }
 }
 
-/// "15 + 14·b + 30·n", and 6 for each measured key; read back, the set is the same.
+/// "15 + 14·b + 30·n" or 8 more, and 6 for each measured key; read back, the set is the
+/// same.
 #[test]
 fn images_of_mixed_sets() {
     let mut random = Random(61);
@@ -239,7 +214,8 @@ fn images_of_mixed_sets() {
         let keys = random.keys(20);
         let contents = random.contents(3, &keys);
         let bytes = image(&priority, &contents);
-        let plain = image(&priority, &Contents::unmeasured(3, &keys));
+        let unmeasured = Contents::unmeasured(3, &keys).salted(contents.salt);
+        let plain = image(&priority, &unmeasured);
         let more = measure_bytes(&bytes).len();
         let number = contents.set.values().filter(|m| m.is_measured()).count();
         assert_eq!((more, bytes.len() - plain.len()), (6 * number, 6 * number));
@@ -281,9 +257,9 @@ fn damaged_records() {
     let bytes = image(&priority, &set(&[(5, 26_500, 0)]));
     let refused = |damaged: &[u8]| {
         for form in FORMS {
-            let mut table = vec![9; 11];
+            let mut table = vec![9; 12];
             assert_eq!((form.read)(&mut table, damaged).refusal, 6);
-            assert_eq!(table, [9; 11]);
+            assert_eq!(table, [9; 12]);
         }
         assert_eq!(program(&REAL, damaged), "refused 6\n");
     };
@@ -315,7 +291,7 @@ fn damaged_records() {
 }
 
 /// "The listing's lines show no measures", and the byte limit is what 1,000 measured
-/// keys would take if each had a block of its own.
+/// keys would take under a salt if each had a block of its own.
 #[test]
 fn listings_show_no_measures() {
     let measured = set(&[(5, 26_500, 17), (9, 0, 0)]);
@@ -326,7 +302,7 @@ fn listings_show_no_measures() {
     let mut output = vec![0; text.len()];
     let reply = fast::list(&image(&priority, &measured), &mut output);
     assert_eq!((reply.refusal, output), (0, text.into_bytes()));
-    assert_eq!(LONGEST_INPUT, 15 + (14 + 36) * 1_000);
+    assert_eq!(LONGEST_INPUT, 23 + (14 + 36) * 1_000);
 }
 
 // ---------------------------------------------------------------------------
@@ -398,24 +374,24 @@ fn refusals_of_build() {
     for form in FORMS {
         let refused = |length: usize, order, keys: &[u64], (a, b): Lists, refusal| {
             let mut table = vec![77; length];
-            let reply = (form.build)(&mut table, order, keys, a, b);
+            let reply = (form.build)(&mut table, order, 5, keys, a, b);
             assert_eq!(reply.refusal, refusal, "{keys:?} {a:?} {b:?}");
             assert_eq!(table, vec![77; length]);
         };
         for list in lists {
-            refused(10, 2, &[4, 4], list, 1);
-            refused(11, 2, &[4, 4], list, 2);
-            refused(11, 3, &[4, 4], list, 5);
-            refused(11, 3, &[0, 4], list, 5);
-            refused(11, 3, &[4, 9], list, 12);
-            refused(19, 3, &[4, 9], list, 12);
+            refused(11, 2, &[4, 4], list, 1);
+            refused(12, 2, &[4, 4], list, 2);
+            refused(12, 3, &[4, 4], list, 5);
+            refused(12, 3, &[0, 4], list, 5);
+            refused(12, 3, &[4, 9], list, 12);
+            refused(20, 3, &[4, 9], list, 12);
         }
-        refused(11, 3, &[4, 9], (&[0, 10_000], &[0, -5_000]), 10);
-        refused(11, 3, &[], (&[0], &[]), 12);
-        refused(11, 3, &[], (&[], &[0]), 12);
-        refused(11, 3, &[4], (&[], &[]), 12);
-        let mut table = vec![77; 11];
-        assert_eq!((form.build)(&mut table, 3, &[], &[], &[]).refusal, 0);
+        refused(12, 3, &[4, 9], (&[0, 10_000], &[0, -5_000]), 10);
+        refused(12, 3, &[], (&[0], &[]), 12);
+        refused(12, 3, &[], (&[], &[0]), 12);
+        refused(12, 3, &[4], (&[], &[]), 12);
+        let mut table = vec![77; 12];
+        assert_eq!((form.build)(&mut table, 3, 5, &[], &[], &[]).refusal, 0);
     }
 }
 
@@ -429,7 +405,7 @@ fn every_place_of_a_list_is_judged() {
                 let (mut lengths, mut corrections) = ([10_000; 5], [-5_000; 5]);
                 let mut table = vec![77; length_of_slots(5)];
                 (lengths[place], corrections[place]) = (measure.length, measure.correction);
-                let reply = (form.build)(&mut table, 3, &keys, &lengths, &corrections);
+                let reply = (form.build)(&mut table, 3, 0, &keys, &lengths, &corrections);
                 assert_eq!(reply.refusal, 12, "{measure:?}");
             }
         }

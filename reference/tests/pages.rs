@@ -44,8 +44,8 @@ fn keys(number: u64) -> Contents {
 
 /// A lone key with this measure.
 fn lone(key: u64, measure: Measure) -> Contents {
-    let (order, set) = (3, [(key, measure)].into());
-    Contents { order, set }
+    let (order, salt, set) = (3, 0, [(key, measure)].into());
+    Contents { order, salt, set }
 }
 
 #[test]
@@ -107,8 +107,8 @@ fn ranks_of_many_digits() {
 #[test]
 fn counts_of_many_digits() {
     let falling = |key: u64| 1_000 - key;
-    let (order, set) = (255, keys(200).set);
-    let text = pages(&falling, &Contents { order, set });
+    let (order, salt, set) = (255, 0, keys(200).set);
+    let text = pages(&falling, &Contents { order, salt, set });
     let counts: Vec<&str> = text
         .lines()
         .filter(|line| line.len() == 48)
@@ -266,7 +266,7 @@ fn what_the_program_prints() {
         "refused 10\n"
     );
     assert_eq!(program(&REAL, &image(&priority, &keys(0))), "PAGE 0001\n");
-    assert_eq!(program(&REAL, &[0; 50_015]), "refused 6\n");
+    assert_eq!(program(&REAL, &[0; 50_023]), "refused 6\n");
     assert_eq!(program(&REAL, &[]), "refused 6\n");
-    assert_eq!(program(&REAL, &[0; 50_016]), "too long\n");
+    assert_eq!(program(&REAL, &[0; 50_024]), "too long\n");
 }

@@ -3,14 +3,16 @@
 
 mod common;
 
-use common::{measure_bytes, Random};
+use common::{measure_bytes, salt_bytes, Random};
 use reference::batch::Question;
 use reference::calls::{Index, LookUpReply, Place, REAL};
 use reference::image::image;
 use reference::load::end_set;
 use reference::measure::Measure;
 use reference::priority::priority;
-use reference::table::{length_of_slots, slots_of_length, words};
+use reference::table::{
+    length_of_slots, slots_of_length, words, HEADER_WORDS, SALT_WORD, SLOT_WORDS,
+};
 use reference::{Contents, Set};
 use std::collections::BTreeSet;
 
@@ -32,11 +34,11 @@ fn random_table(random: &mut Random, index: &Index) -> (Vec<u64>, Contents) {
     (table, contents)
 }
 
-/// Builds from the lists of an order and a set; the refusal.
+/// Builds from the lists of an order, a salt and a set; the refusal.
 fn build(index: &Index, table: &mut [u64], contents: &Contents) -> u64 {
     let (lengths, corrections) = (contents.lengths(), contents.corrections());
-    let keys = contents.keys();
-    let reply = index.build(table, contents.order, &keys, &lengths, &corrections);
+    let (order, salt, keys) = (contents.order, contents.salt, contents.keys());
+    let reply = index.build(table, order, salt, &keys, &lengths, &corrections);
     reply.refusal
 }
 
@@ -87,7 +89,7 @@ fn two_insertion_orders_give_equal_words() {
                 let mut set: Vec<(u64, Measure)> = contents.set.clone().into_iter().collect();
                 random.shuffle(&mut set);
                 let mut other = vec![random.next(); table.len()];
-                index.set_up(&mut other, contents.order);
+                index.set_up(&mut other, contents.order, contents.salt);
                 for (key, measure) in set {
                     assert_eq!(index.insert(&mut other, key, measure).refusal, 0);
                 }
@@ -125,9 +127,10 @@ fn damaged_images_are_refused() {
                 damaged[i] ^= flip;
                 let reply = REAL.read_image(&mut table, &damaged);
                 if reply.refusal == 0 {
-                    // The order's byte: the same records may be right for it. A
-                    // measure's: it may be another right one.
-                    assert!(i == 2 || measure_bytes(&bytes).contains(&i), "byte {i}");
+                    // The order's byte or the salt's: the same records may be right for
+                    // it. A measure's: it may be another right one.
+                    let is_another = i == 2 || salt_bytes(&bytes).contains(&i);
+                    assert!(is_another || measure_bytes(&bytes).contains(&i), "byte {i}");
                     let read = REAL.sound(&table).expect("just read");
                     assert_eq!(read.keys(), contents.keys());
                     assert_eq!(image(&priority, &read), damaged);
@@ -147,8 +150,8 @@ fn damaged_images_are_refused() {
     }
 }
 
-/// Any one changed word makes the table unsound, but for the order and a measure
-/// that becomes another right one.
+/// Any one changed word makes the table unsound, but for the order, the salt and a
+/// measure that becomes another right one.
 #[test]
 fn damaged_tables_are_refused() {
     let mut random = Random(15);
@@ -159,7 +162,8 @@ fn damaged_tables_are_refused() {
             damaged[i] ^= 1 << random.below(64);
             let before = damaged.clone();
             if let Some(read) = REAL.sound(&damaged) {
-                assert!(i == 0 || (i - 3) % 8 >= 6, "word {i}");
+                let is_another = i == 0 || i == SALT_WORD;
+                assert!(is_another || is_measure_word(i), "word {i}");
                 assert_eq!(read.keys(), contents.keys());
                 let m = slots_of_length(table.len()).unwrap();
                 assert_eq!(words(&priority, &read, m), damaged);
@@ -169,6 +173,11 @@ fn damaged_tables_are_refused() {
             assert_eq!(damaged, before);
         }
     }
+}
+
+/// Whether a slot has a length or a stored correction in that word.
+fn is_measure_word(word: usize) -> bool {
+    word >= HEADER_WORDS && (word - HEADER_WORDS) % SLOT_WORDS >= 6
 }
 
 fn refused_as_unsound(table: &mut [u64]) {
@@ -241,24 +250,23 @@ fn refusals_by_the_state_leave_no_trace() {
     assert!(short.iter().all(|&byte| byte == 0xEE));
 }
 
-/// "The book is an order and a set of keys", "now one of keys with their measures":
-/// fed the calls with their inputs and no word of the table.
+/// "The book is an order and a set of keys", "now one of keys with their measures", and
+/// "also keeps the salt, as the calls give it": fed the calls with their inputs and no
+/// word of the table.
 struct Book {
     slots: usize,
-    order: u64,
-    set: Set,
+    contents: Contents,
 }
 
 impl Book {
-    fn contents(&self) -> Contents {
-        let (order, set) = (self.order, self.set.clone());
-        Contents { order, set }
+    fn set(&self) -> &Set {
+        &self.contents.set
     }
 
     /// What it holds from now on, unless the call is refused.
     fn take(&mut self, refusal: u64, contents: Contents) {
         if refusal == 0 {
-            (self.order, self.set) = (contents.order, contents.set);
+            self.contents = contents;
         }
     }
 }
@@ -272,14 +280,15 @@ fn histories_go_by_the_book() {
         for _ in 0..30 {
             let (slots, order) = (1 + random.below(9) as usize, 3 + random.below(3));
             let mut table = vec![random.next(); length_of_slots(slots)];
-            let set = Set::new();
-            let mut book = Book { slots, order, set };
-            assert_eq!(index.set_up(&mut table, order).refusal, 0);
+            let salt = random.salt(&[]);
+            let contents = Contents::unmeasured(order, &[]).salted(salt);
+            let mut book = Book { slots, contents };
+            assert_eq!(index.set_up(&mut table, order, salt).refusal, 0);
             for _ in 0..60 {
                 play(&mut random, &index, &mut table, &mut book);
-                let contents = book.contents();
-                assert_eq!(table, words(index.priority, &contents, slots));
-                assert_eq!(image_of(&index, &table), image(index.priority, &contents));
+                let contents = &book.contents;
+                assert_eq!(table, words(index.priority, contents, slots));
+                assert_eq!(image_of(&index, &table), image(index.priority, contents));
             }
         }
     }
@@ -288,28 +297,29 @@ fn histories_go_by_the_book() {
 /// One random call, its reply checked against the book and the book kept.
 fn play(random: &mut Random, index: &Index, table: &mut [u64], book: &mut Book) {
     let key = random.below(16);
-    match random.below(14) {
+    match random.below(15) {
         0..=4 => play_insert(random, index, table, book),
         5..=7 => {
             let expected = match () {
                 _ if key == 0 => 3,
-                _ if !book.set.contains_key(&key) => 9,
+                _ if !book.set().contains_key(&key) => 9,
                 _ => 0,
             };
             assert_eq!(index.delete(table, key).refusal, expected);
-            book.set.remove(&key);
+            book.contents.set.remove(&key);
         }
         8 => {
             let reply = index.look_up(table, key.max(1));
-            let measure = book.set.get(&key.max(1));
+            let measure = book.set().get(&key.max(1));
             assert_eq!(reply.held, measure.is_some());
             assert_eq!(reply.measure, measure.copied().unwrap_or(Measure::NONE));
-            assert_eq!(reply.blocks == 0, book.set.is_empty());
+            assert_eq!(reply.blocks == 0, book.set().is_empty());
         }
         9 => play_range(random, index, table, book),
         10 => play_build(random, index, table, book),
         11 => play_load(random, index, table, book),
-        12 => play_batch(random, index, table, &book.contents().keys()),
+        12 => play_batch(random, index, table, &book.contents.keys()),
+        13 => play_set_up(random, index, table, book),
         _ => {
             let keys = random.keys(10);
             let read = random.contents(4, &keys);
@@ -319,6 +329,14 @@ fn play(random: &mut Random, index: &Index, table: &mut [u64], book: &mut Book) 
             book.take(expected, read);
         }
     }
+}
+
+/// A set-up, of an order that is none now and then.
+fn play_set_up(random: &mut Random, index: &Index, table: &mut [u64], book: &mut Book) {
+    let (order, salt) = (2 + random.below(3), random.salt(&book.contents.keys()));
+    let expected = if order < 3 { 2 } else { 0 };
+    assert_eq!(index.set_up(table, order, salt).refusal, expected);
+    book.take(expected, Contents::unmeasured(order, &[]).salted(salt));
 }
 
 /// An insert, of a measure outside the rules now and then.
@@ -331,13 +349,13 @@ fn play_insert(random: &mut Random, index: &Index, table: &mut [u64], book: &mut
     let expected = match () {
         _ if key == 0 => 3,
         _ if is_wrong => 12,
-        _ if book.set.contains_key(&key) => 8,
-        _ if book.set.len() == book.slots => 10,
+        _ if book.set().contains_key(&key) => 8,
+        _ if book.set().len() == book.slots => 10,
         _ => 0,
     };
     assert_eq!(index.insert(table, key, measure).refusal, expected);
     if expected == 0 {
-        book.set.insert(key, measure);
+        book.contents.set.insert(key, measure);
     }
 }
 
@@ -349,7 +367,7 @@ fn play_range(random: &mut Random, index: &Index, table: &[u64], book: &Book) {
         assert_eq!((reply.refusal, reply.length), (4, 0));
         return;
     }
-    let expected: Vec<u64> = book.set.range(low..=high).map(|(&key, _)| key).collect();
+    let expected: Vec<u64> = book.set().range(low..=high).map(|(&key, _)| key).collect();
     assert_eq!(output[..reply.length as usize], expected);
     assert_eq!(by_steps(index, table, low, high), expected);
 }
@@ -430,7 +448,8 @@ fn a_full_table_of_4096_slots() {
     }
     let keys: Vec<u64> = keys.into_iter().collect();
     let set: Set = keys.iter().map(|&key| (key, random.measured())).collect();
-    let contents = Contents { order: 16, set };
+    let (order, salt) = (16, random.next());
+    let contents = Contents { order, salt, set };
     let mut table = vec![1; length_of_slots(4096)];
     assert_eq!(build(&REAL, &mut table, &contents), 0);
     let (before, measure) = (table.clone(), contents.set[&keys[1234]]);
@@ -441,7 +460,7 @@ fn a_full_table_of_4096_slots() {
     let mut output = vec![0; 4096];
     assert_eq!(REAL.range(&table, 0, u64::MAX, &mut output).length, 4096);
     assert_eq!(output, keys);
-    let mut bytes = vec![0; 15 + 50 * 4096];
+    let mut bytes = vec![0; 23 + 50 * 4096];
     let length = REAL.write_image(&table, &mut bytes).length as usize;
     table.fill(3);
     assert_eq!(REAL.read_image(&mut table, &bytes[..length]).refusal, 0);

@@ -7,7 +7,7 @@ use super::judged::Judged;
 use super::node::Node;
 use super::record::*;
 use super::stored::Stored;
-use crate::priority::{priority, Entry};
+use crate::priority::Entry;
 
 /// Inserts a key that is absent, with room for it. Gives its rank.
 pub fn insert(table: &mut [u64], judged: &mut Judged, key: u64, measure: Stored) -> u64 {
@@ -257,7 +257,8 @@ impl<'a> Edit<'a> {
     fn close(&mut self, slot: usize) {
         let (mut hole, mut at, mut from_hole) = (slot, self.next(slot), 1);
         while at != slot && self.slots[at][KEY] != 0 {
-            if self.homes.driven(priority(self.slots[at][KEY]), at) >= from_hole {
+            let priority = salted_priority(self.slots[at][KEY], self.judged.salt);
+            if self.homes.driven(priority, at) >= from_hole {
                 self.slots[hole] = self.slots[at];
                 (hole, from_hole) = (at, 0);
             }

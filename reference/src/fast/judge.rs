@@ -18,7 +18,7 @@ pub fn judge(table: &[u64]) -> Option<Judged> {
     if !is_order(table[ORDER]) {
         return None;
     }
-    let mut judged = collect(slots, table[NUMBER])?;
+    let mut judged = collect(slots, table[NUMBER], table[SALT])?;
     let right = in_place(&judged.nodes[1..], slots.len())
         && judged.hangs_together(table[ORDER], table[ROOT]);
     right.then_some(judged)
@@ -26,7 +26,7 @@ pub fn judge(table: &[u64]) -> Option<Judged> {
 
 /// Reads all slots: the nodes, if the empty slots are all zeros, the measures right
 /// and the keys as many as the header says.
-fn collect(slots: &[Record], number: u64) -> Option<Judged> {
+fn collect(slots: &[Record], number: u64, salt: u64) -> Option<Judged> {
     let occupied = occupied(slots)?;
     if occupied.len() as u64 != number {
         return None;
@@ -38,13 +38,14 @@ fn collect(slots: &[Record], number: u64) -> Option<Judged> {
     nodes.extend(
         occupied
             .iter()
-            .map(|&slot| Node::new(&slots[slot as usize], slot.into(), homes)),
+            .map(|&slot| Node::new(&slots[slot as usize], slot.into(), homes, salt)),
     );
     for (number, node) in (0..).zip(&nodes).skip(1) {
         finder.add(node.key, number);
     }
     let children = vec![[NONE; 2]; nodes.len()];
     Some(Judged {
+        salt,
         nodes,
         finder,
         children,

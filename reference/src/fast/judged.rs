@@ -18,6 +18,7 @@ pub struct Visit {
 
 /// What judging finds out about a sound table.
 pub struct Judged {
+    pub salt: u64,
     /// By number, which rises with the slots; first the one for no node.
     pub nodes: Vec<Node>,
     pub finder: Finder,
@@ -52,7 +53,7 @@ impl Judged {
     /// Numbers a new key, which is in no slot.
     pub fn add(&mut self, key: u64, measure: Stored) -> u16 {
         let number = self.nodes.len() as u16;
-        self.nodes.push(Node::unplaced(key, measure));
+        self.nodes.push(Node::unplaced(key, measure, self.salt));
         self.children.push([NONE; 2]);
         number
     }

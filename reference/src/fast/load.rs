@@ -10,7 +10,7 @@ use super::node::Node;
 use super::record::*;
 use super::stored::Stored;
 use crate::calls::LookUpReply;
-use crate::load::{Operation, GREATEST_KEY};
+use crate::load::{Operation, GREATEST_KEY, NO_SALT};
 
 /// The slot of a key that is absent.
 const NOWHERE: u16 = u16::MAX;
@@ -32,18 +32,19 @@ pub fn run(table: &mut [u64], operations: impl Iterator<Item = Operation>) {
 
 /// What is known of a blank table. Every key that a load can name has a node from
 /// the beginning, whose number is the key, so that none is ever added. None of them
-/// is measured.
+/// is measured. "Loads use salt zero".
 fn blank() -> Judged {
     let keys = 1..=GREATEST_KEY;
     let absent = |key| Node {
         slot: NOWHERE,
-        ..Node::unplaced(key, Stored::NONE)
+        ..Node::unplaced(key, Stored::NONE, NO_SALT)
     };
     let mut nodes = vec![Node::default()];
     nodes.extend(keys.clone().map(absent));
     let mut finder = Finder::for_keys(nodes.len());
     keys.for_each(|key| finder.add(key, key as u16));
     Judged {
+        salt: NO_SALT,
         children: vec![[NONE; 2]; nodes.len()],
         nodes,
         finder,

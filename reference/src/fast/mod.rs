@@ -27,7 +27,7 @@ mod stored;
 use crate::batch::{batched, BatchReply, Question};
 use crate::calls::*;
 use crate::is_order;
-use crate::load::operations;
+use crate::load::{operations, NO_SALT};
 use crate::measure::Measure;
 use crate::points::{pointed, PointsReply};
 use fresh::Nodes;
@@ -49,15 +49,16 @@ fn sound(table: &[u64]) -> Outcome<Judged> {
 }
 
 /// "Set-up uses 1, 2"
-pub fn set_up(table: &mut [u64], order: u64) -> PlainReply {
-    plain(try_set_up(table, order))
+pub fn set_up(table: &mut [u64], order: u64, salt: u64) -> PlainReply {
+    plain(try_set_up(table, order, salt))
 }
 
-fn try_set_up(table: &mut [u64], order: u64) -> Outcome<()> {
+fn try_set_up(table: &mut [u64], order: u64, salt: u64) -> Outcome<()> {
     length_of(table)?;
     refuse_if(!is_order(order), ORDER)?;
     table.fill(0);
     table[record::ORDER] = order;
+    table[record::SALT] = salt;
     Ok(())
 }
 
@@ -65,16 +66,18 @@ fn try_set_up(table: &mut [u64], order: u64) -> Outcome<()> {
 pub fn build(
     table: &mut [u64],
     order: u64,
+    salt: u64,
     keys: &[u64],
     lengths: &[u64],
     corrections: &[i32],
 ) -> PlainReply {
-    plain(try_build(table, order, keys, (lengths, corrections)))
+    plain(try_build(table, order, salt, keys, (lengths, corrections)))
 }
 
 fn try_build(
     table: &mut [u64],
     order: u64,
+    salt: u64,
     keys: &[u64],
     (lengths, corrections): (&[u64], &[i32]),
 ) -> Outcome<()> {
@@ -85,7 +88,7 @@ fn try_build(
     refuse_if([lengths.len(), corrections.len()] != [number; 2], MEASURE)?;
     let measures = measures(lengths, corrections).ok_or(MEASURE)?;
     refuse_if(number > slots, TOO_MANY)?;
-    Nodes::new(order, [&[0], keys].concat(), measures).write_table(table, order);
+    Nodes::new(order, salt, [&[0], keys].concat(), measures).write_table(table, order);
     Ok(())
 }
 
@@ -106,7 +109,7 @@ pub fn load(table: &mut [u64], order: u64, seed: u64, count: u16) -> PlainReply 
 }
 
 fn try_load(table: &mut [u64], order: u64, seed: u64, count: u16) -> Outcome<()> {
-    try_set_up(table, order)?;
+    try_set_up(table, order, NO_SALT)?;
     load::run(table, operations(seed, count));
     Ok(())
 }
@@ -231,6 +234,7 @@ fn try_write_image(table: &[u64], output: &mut [u8]) -> Outcome<usize> {
     let judged = sound(table)?;
     let layout = Layout::new(
         table[record::ORDER],
+        judged.salt,
         &judged,
         judged.root,
         judged.rising().into_iter(),
@@ -244,10 +248,11 @@ fn try_write_image(table: &[u64], output: &mut [u8]) -> Outcome<usize> {
 fn nodes_of(bytes: &[u8]) -> Option<(u64, Nodes)> {
     let Candidate {
         order,
+        salt,
         keys,
         measures,
     } = candidate(bytes)?;
-    Some((order, Nodes::new(order, keys, measures)))
+    Some((order, Nodes::new(order, salt, keys, measures)))
 }
 
 /// "reader 1, 6, 10"

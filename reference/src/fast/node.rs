@@ -1,9 +1,9 @@
 //! What is known of one key of a table.
 
 use super::home::Homes;
-use super::record::Record;
+use super::record::{salted_priority, Record};
 use super::stored::Stored;
-use crate::priority::{priority, Entry};
+use crate::priority::Entry;
 
 /// A key's words, its priority, its slot, and how many slots it was driven on
 /// from its home, in one line of the cache.
@@ -25,10 +25,10 @@ pub struct Node {
 impl Node {
     /// A key that is in no slot yet.
     #[inline(always)]
-    pub fn unplaced(key: u64, measure: Stored) -> Node {
+    pub fn unplaced(key: u64, measure: Stored, salt: u64) -> Node {
         Node {
             key,
-            priority: priority(key),
+            priority: salted_priority(key, salt),
             measure,
             ..Node::default()
         }
@@ -36,9 +36,9 @@ impl Node {
 
     /// The key of a slot whose measure is right.
     #[inline(always)]
-    pub fn new(record: &Record, slot: usize, homes: Homes) -> Node {
+    pub fn new(record: &Record, slot: usize, homes: Homes, salt: u64) -> Node {
         let [key, left, right, leader, rank, count, length, correction] = *record;
-        let priority = priority(key);
+        let priority = salted_priority(key, salt);
         let driven = homes.driven(priority, slot) as u16;
         let measure = Stored {
             length: length as u16,

@@ -1,12 +1,13 @@
 //! What bytes are the image of, if they are one.
 
-use super::image::{BLOCK_BYTES, HEADER_BYTES, MEASURED_BYTES, NODE_BYTES};
+use super::image::{BLOCK_BYTES, HEADER_BYTES, MEASURED_BYTES, NODE_BYTES, SALT_BYTES};
 use super::stored::Stored;
 use crate::{is_order, MOST_SLOTS};
 
-/// An order, and keys that rise after a first zero, each with its measure.
+/// An order, a salt, and keys that rise after a first zero, each with its measure.
 pub struct Candidate {
     pub order: u64,
+    pub salt: u64,
     pub keys: Vec<u64>,
     pub measures: Vec<Stored>,
 }
@@ -16,8 +17,9 @@ pub fn candidate(bytes: &[u8]) -> Option<Candidate> {
     let (header, mut rest) = split(bytes, HEADER_BYTES)?;
     let order = header[2].into();
     let number = u16::from_le_bytes([header[3], header[4]]) as usize;
-    let longest = HEADER_BYTES + (BLOCK_BYTES + MEASURED_BYTES) * number;
-    if number > MOST_SLOTS || bytes.len() > longest || !is_order(order) {
+    let salt = take_salt(header[1], &mut rest)?;
+    let longest = (BLOCK_BYTES + MEASURED_BYTES) * number;
+    if number > MOST_SLOTS || rest.len() > longest || !is_order(order) {
         return None;
     }
     let mut held = Vec::with_capacity(number + 1);
@@ -34,9 +36,20 @@ pub fn candidate(bytes: &[u8]) -> Option<Candidate> {
     let (keys, measures): (Vec<u64>, Vec<Stored>) = held.into_iter().unzip();
     (keys.len() == number + 1 && rises(&keys)).then_some(Candidate {
         order,
+        salt,
         keys,
         measures,
     })
+}
+
+/// The salt, whose bytes are next after a header of the mark `LS`; zero for another mark.
+fn take_salt(mark: u8, rest: &mut &[u8]) -> Option<u64> {
+    if mark != b'S' {
+        return Some(0);
+    }
+    let (salt, later) = split(rest, SALT_BYTES)?;
+    *rest = later;
+    Some(u64::from_le_bytes(salt.try_into().expect("eight bytes")))
 }
 
 /// Takes so many node records, of either kind; gives the bytes after them.

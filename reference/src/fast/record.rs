@@ -1,8 +1,8 @@
 //! The records of a table's slots, and what a node's rank, count and leader
 //! follow from.
 
-use crate::priority::Entry;
-use crate::table::{HEADER_WORDS, SLOT_WORDS};
+use crate::priority::{priority, Entry};
+use crate::table::{HEADER_WORDS, SALT_WORD, SLOT_WORDS};
 use crate::MOST_SLOTS;
 use std::slice;
 
@@ -22,10 +22,11 @@ pub const COUNT: usize = 5;
 pub const LENGTH: usize = 6;
 pub const CORRECTION: usize = 7;
 
-/// "Words 0 to 2: α, n, root key."
+/// "Words 0 to 2: α, n, root key"; the salt "in a new word after the root key".
 pub const ORDER: usize = 0;
 pub const NUMBER: usize = 1;
 pub const ROOT: usize = 2;
+pub const SALT: usize = SALT_WORD;
 
 /// Nodes are named by numbers from 1 on. This one stands for no node: it has
 /// key, rank and count zero, so that it need not be told apart.
@@ -94,6 +95,12 @@ pub fn leader_below<T>(parent: (T, u64), parents_leader: T, rank: u64) -> T {
 #[inline(always)]
 pub fn level(rank: u64, k: u64) -> u64 {
     k.min(rank + 1)
+}
+
+/// "The priority of k, in its home too, becomes P of the exclusive or of k and the salt."
+#[inline(always)]
+pub fn salted_priority(key: u64, salt: u64) -> u64 {
+    priority(key ^ salt)
 }
 
 /// Whether entry `a` outranks entry `b`, of different keys.

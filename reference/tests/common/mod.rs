@@ -1,5 +1,7 @@
-//! Random numbers, measures and sets for the tests, and what several of them use.
+//! Random numbers, measures, salts and sets for the tests, and what several of them use.
 #![allow(dead_code)]
+
+pub mod forms;
 
 use reference::depths::keys_at;
 use reference::measure::Measure;
@@ -7,6 +9,7 @@ use reference::priority::TIES;
 use reference::random::splitmix;
 use reference::{Contents, MOST_SLOTS};
 use std::collections::BTreeSet;
+use std::ops::Range;
 
 /// A state of the generator.
 pub struct Random(pub u64);
@@ -87,10 +90,20 @@ impl Random {
         }
     }
 
-    /// An order and rising keys: none of them measured, all, or some.
+    /// A salt: none, an end, one of the keys itself, or any.
+    pub fn salt(&mut self, keys: &[u64]) -> u64 {
+        match self.below(3) {
+            0 => SALTS[self.below(SALTS.len() as u64) as usize],
+            1 if !keys.is_empty() => keys[self.below(keys.len() as u64) as usize],
+            _ => self.next(),
+        }
+    }
+
+    /// An order and rising keys under some salt: none of them measured, all, or some.
     pub fn contents(&mut self, order: u64, keys: &[u64]) -> Contents {
+        let salt = self.salt(keys);
         let kind = self.below(3);
-        let mut contents = Contents::unmeasured(order, keys);
+        let mut contents = Contents::unmeasured(order, keys).salted(salt);
         for measure in contents.set.values_mut() {
             *measure = match kind {
                 0 => Measure::NONE,
@@ -107,6 +120,9 @@ impl Random {
         }
     }
 }
+
+/// No salt, the least, one of the highest bit alone, and the greatest.
+pub const SALTS: [u64; 4] = [0, 1, 1 << 63, u64::MAX];
 
 /// Measures outside the rules: each length and each correction that is next to one
 /// within them, those that would be within if they were cut to fewer bits, and a
@@ -150,17 +166,28 @@ pub fn permutations(rest: &[u64]) -> Vec<Vec<u64>> {
 /// Rising keys whose treap is a chain, as many as a table has slots; the first of them
 /// are one too. The least key is the root, the greatest stands deepest.
 pub fn falling_priorities() -> Vec<u64> {
-    keys_at(&Vec::from_iter(0..MOST_SLOTS))
+    keys_at(0, &Vec::from_iter(0..MOST_SLOTS))
 }
 
 /// The same with the greatest key as the root, and the least deepest.
 pub fn rising_priorities() -> Vec<u64> {
-    keys_at(&Vec::from_iter((0..MOST_SLOTS).rev()))
+    keys_at(0, &Vec::from_iter((0..MOST_SLOTS).rev()))
+}
+
+/// Where an image has the bytes of its salt: nowhere if that is zero.
+pub fn salt_bytes(image: &[u8]) -> Range<usize> {
+    match &image[..2] {
+        b"LS" => 15..23,
+        mark => {
+            assert_eq!(mark, b"LH");
+            15..15
+        }
+    }
 }
 
 /// Where an image has the bytes of measures.
 pub fn measure_bytes(image: &[u8]) -> Vec<usize> {
-    let (mut places, mut at) = (vec![], 15);
+    let (mut places, mut at) = (vec![], salt_bytes(image).end);
     while at < image.len() {
         at += match &image[at..at + 2] {
             b"LB" => 14,
