@@ -1,5 +1,5 @@
 # The library for C: `make` proves and builds it, `make install PREFIX=..` puts header, archive and pkg-config file in place.
-VERSION = 0.5.0
+VERSION = 0.6.0
 PREFIX = /usr/local
 ARCHIVE = target/staticlib/libbtreap.a
 

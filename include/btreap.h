@@ -1,20 +1,23 @@
 /* Wethpaol: a verified, uniquely represented index of 64-bit keys, kept in words that the caller lends.
  *
  * A set of keys (1 to 2^64 - 1), each with its measure, lives in a table: an array of uint64_t that belongs to the caller. Every word of a
- * table is a function of its order, its number of slots and the set alone, however the set was reached. A table's image is a string of
- * bytes; two sound tables have equal images exactly when their orders and sets are equal, measures included.
+ * table is a function of its order, its salt, its number of slots and the set alone, however the set was reached. A table's image is a string
+ * of bytes; two sound tables have equal images exactly when their orders, salts and sets are equal, measures included.
  *
- * Programs compiled with a header before 0.2.0 must be compiled again: it declares other types under the same names. Tables made then have
- * another layout: do not lend them, since not every one of them is refused. Images made then are read as they are, no key being measured.
+ * Programs compiled with a header before 0.6.0 must be compiled again: it declares other functions and types under the same names. Tables made
+ * then have other lengths, and are refused with 1. Images made then are read as they are: their salt is zero.
  *
- * The table.    BTREAP_TABLE_WORDS(M), that is 3 + 8*M words, for M slots, 1 to 4,096; it holds up to M keys. Make one of any words
+ * The table.    BTREAP_TABLE_WORDS(M), that is 4 + 8*M words, for M slots, 1 to 4,096; it holds up to M keys. Make one of any words
  *               with btreap_set_up, btreap_build, btreap_read or btreap_load; then do not write to it but by these calls.
  * The order.    3 to 255, chosen at set-up, build or load: a block of the tree has up to about twice that many keys.
+ * The salt.     Any 64-bit number, chosen at set-up or build; 0 is none. How keys rank and in which slots they stand goes by their exclusive or
+ *               with it, so that a maker with a salt of its own has priorities that no neighbour's library shares. What the calls answer of a
+ *               table's keys goes by the table's own salt. It is no secret: table and image show it. A load's salt is 0.
  * The measure.  A length, 10,000 to 40,000, and a heel correction, -5,000 to 5,000, both in hundredths of a millimetre. A key that is not
  *               measured has length 0 and correction 0. The measure comes with its key; to change it, delete the key and insert it again.
  *               btreap_points gives the size that a measure comes to.
- * The image.    15 + 14*b + 30*n + 6*m bytes for n keys in b blocks, m of the keys measured; no image is longer than
- *               BTREAP_LONGEST_IMAGE = 204,815 bytes.
+ * The image.    15 + 14*b + 30*n + 6*m bytes for n keys in b blocks, m of the keys measured, and 8 more under a salt other than 0; no
+ *               image is longer than BTREAP_LONGEST_IMAGE = 204,823 bytes.
  * The pages.    A text to print and pin up, 50 keys a page: BTREAP_PAGES_BYTES(n) bytes for n keys, that is 49 for each key and 10 for
  *               each page, of which there is one at least; BTREAP_LONGEST_PAGES = 201,524 for 4,096 keys.
  *
@@ -31,13 +34,13 @@
  * done), which then come back as they were passed. Of several refusals the one is given that the call names first; each call names its
  * refusals by rising number, but 12 before 7, 8 and 10:
  *
- *    1  the number of words is not 3 + 8*M for an M from 1 to 4,096
+ *    1  the number of words is not 4 + 8*M for an M from 1 to 4,096
  *    2  the order is outside 3 to 255
  *    3  the key is zero
  *    4  low is above high
  *    5  the keys of a list or of a batch do not rise strictly, or one is zero
- *    6  the bytes are not an image of any order and any set of at most 4,096 keys
- *    7  the table is not sound: some word is not what its order, keys and measures make it, or a measure is outside the rules
+ *    6  the bytes are not an image of any order, any salt and any set of at most 4,096 keys
+ *    7  the table is not sound: some word is not what its order, salt, keys and measures make it, or a measure is outside the rules
  *    8  the key to insert is held
  *    9  the key to delete is absent
  *   10  there would be more keys than slots
@@ -64,10 +67,10 @@ extern "C" {
 #endif
 
 #define BTREAP_MOST_SLOTS 4096
-#define BTREAP_TABLE_WORDS(slots) (3 + 8 * (size_t)(slots))
+#define BTREAP_TABLE_WORDS(slots) (4 + 8 * (size_t)(slots))
 #define BTREAP_LEAST_ORDER 3
 #define BTREAP_GREATEST_ORDER 255
-#define BTREAP_LONGEST_IMAGE 204815
+#define BTREAP_LONGEST_IMAGE 204823
 #define BTREAP_PAGES_BYTES(keys) (49 * (size_t)(keys) + 10 * (((size_t)(keys) + 49) / 50 + ((keys) == 0)))
 #define BTREAP_LONGEST_PAGES 201524
 
@@ -120,17 +123,17 @@ struct btreap_question {
     uint64_t key, held, rank;
 };
 
-/* Make of any words the blank table of an order. Gives the refusal: 1, 2. */
-uint64_t btreap_set_up(uint64_t *table, size_t words, uint64_t order);
+/* Make of any words the blank table of an order and a salt. Gives the refusal: 1, 2. */
+uint64_t btreap_set_up(uint64_t *table, size_t words, uint64_t order, uint64_t salt);
 
-/* Make of any words the table of an order and of n strictly rising keys, each with the length and the correction at its place of the two
+/* Make of any words the table of an order, a salt and n strictly rising keys, each with the length and the correction at its place of the two
  * other lists; these have as many entries as there are keys. For keys that are not measured lend lists of n zeros; empty lists beside keys
  * are refused with 12. Gives the refusal: 1, 2, 5, 12, 10. */
-uint64_t btreap_build(uint64_t *table, size_t words, uint64_t order, const uint64_t *keys, size_t n, const uint64_t *lengths,
+uint64_t btreap_build(uint64_t *table, size_t words, uint64_t order, uint64_t salt, const uint64_t *keys, size_t n, const uint64_t *lengths,
                       size_t lengths_n, const int32_t *corrections, size_t corrections_n);
 
-/* Make of any words the blank table of an order, and do on it count operations that the seed alone determines: a load that anyone can run
- * again. Each operation first sets seed to 6364136223846793005 * seed + 1442695040888963407, modulo 2^64. Its key is then
+/* Make of any words the blank table of an order and the salt 0, and do on it count operations that the seed alone determines: a load that
+ * anyone can run again. Each operation first sets seed to 6364136223846793005 * seed + 1442695040888963407, modulo 2^64. Its key is then
  * (seed >> 32) % 512 + 1, and seed >> 62 chooses: 0 or 1 insert, 2 delete, 3 lookup. No key is measured. An operation that is turned down
  * counts as done; what the operations reply is not given. The table is the one that btreap_set_up and as many calls would leave.
  * Gives the refusal: 1, 2. */
@@ -168,13 +171,14 @@ struct btreap_stepped btreap_step(const uint64_t *table, size_t words, uint64_t 
  * Refusals: 1, 7, 11. */
 struct btreap_sized btreap_write(const uint64_t *table, size_t words, uint8_t *out, size_t out_bytes);
 
-/* Make of any words the table whose image the bytes are. Gives the refusal: 1, 6, 10. */
+/* Make of any words the table whose image the bytes are: of its order, salt and set, whatever the table's salt was. Gives the refusal:
+ * 1, 6, 10. */
 uint64_t btreap_read(uint64_t *table, size_t words, const uint8_t *image, size_t bytes);
 
 /* Write the text of an image at the start of out: a line for the header, each block and each key; size is its length in bytes, at most ten
- * times the image's, and later bytes of out are as they were. The fill in the first line is how full the blocks are, in percent: of order a,
- * n keys in b blocks, 100*n / ((2*a - 1) + (b - 1)*(2*a - 2)) rounded down, 0 without keys, since the root block, which is the first, can hold
- * 2*a - 1 keys and any other 2*a - 2. Refusals: 6, 11. */
+ * times the image's, and later bytes of out are as they were. Neither links nor measures nor the salt are shown. The fill in the first line is
+ * how full the blocks are, in percent: of order a, n keys in b blocks, 100*n / ((2*a - 1) + (b - 1)*(2*a - 2)) rounded down, 0 without keys,
+ * since the root block, which is the first, can hold 2*a - 1 keys and any other 2*a - 2. Refusals: 6, 11. */
 struct btreap_sized btreap_list(const uint8_t *image, size_t bytes, uint8_t *out, size_t out_bytes);
 
 /* Write the keys on pages, a text, at the start of out; size is its length in bytes, and later bytes of out are as they were. The keys

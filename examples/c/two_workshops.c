@@ -11,6 +11,10 @@
 #define SLOTS 64
 #define WORDS BTREAP_TABLE_WORDS(SLOTS)
 
+/* The two workshops have no salt; a neighbour has one of its own. */
+#define NO_SALT 0
+#define SALT UINT64_C(0x5EED)
+
 /* End the program where a call was turned down. */
 static void accept(const char *call, uint64_t refusal)
 {
@@ -24,7 +28,7 @@ static void accept(const char *call, uint64_t refusal)
 static void first_workshop(uint64_t *table)
 {
     static const uint64_t keys[] = { 7, 99, 3000, 8 };
-    accept("set-up", btreap_set_up(table, WORDS, 3));
+    accept("set-up", btreap_set_up(table, WORDS, 3, NO_SALT));
     accept("insert", btreap_insert(table, WORDS, 512, 26500, -120).refusal);
     for (size_t i = 0; i < sizeof keys / sizeof keys[0]; i++)
         accept("insert", btreap_insert(table, WORDS, keys[i], BTREAP_NOT_MEASURED, 0).refusal);
@@ -32,13 +36,13 @@ static void first_workshop(uint64_t *table)
     accept("delete", btreap_delete(table, WORDS, 99).refusal);
 }
 
-/* The second builds its table from a rising list of keys, and their lengths and corrections. */
-static void second_workshop(uint64_t *table)
+/* The second builds its table from a rising list of keys, and their lengths and corrections. So does the neighbour. */
+static void second_workshop(uint64_t *table, uint64_t salt)
 {
     static const uint64_t keys[] = { 7, 8, 41, 512, 3000 };
     static const uint64_t lengths[] = { 0, 0, 31000, 26500, 0 };
     static const int32_t corrections[] = { 0, 0, 45, -120, 0 };
-    accept("build", btreap_build(table, WORDS, 3, keys, 5, lengths, 5, corrections, 5));
+    accept("build", btreap_build(table, WORDS, 3, salt, keys, 5, lengths, 5, corrections, 5));
 }
 
 /* What a lookup says of a key. */
@@ -58,7 +62,7 @@ static void look_up(const uint64_t *table, uint64_t key)
 static void try_measure(uint64_t length, int32_t correction)
 {
     static uint64_t table[BTREAP_TABLE_WORDS(1)];
-    accept("set-up", btreap_set_up(table, BTREAP_TABLE_WORDS(1), 3));
+    accept("set-up", btreap_set_up(table, BTREAP_TABLE_WORDS(1), 3, NO_SALT));
     uint64_t refusal = btreap_insert(table, BTREAP_TABLE_WORDS(1), 7, length, correction).refusal;
     if (refusal != BTREAP_WRONG_MEASURE)
         accept("insert", refusal);
@@ -125,6 +129,22 @@ static void compare_loads(void)
     printf("images agree: %s\n", sent.size == kept.size && memcmp(one, other, sent.size) == 0 ? "yes" : "no");
 }
 
+/* Under a salt the same lasts have other ranks and slots: another table, another image. Whoever reads the image gets the salt along with them. */
+static void under_a_salt(const uint64_t *table)
+{
+    static uint64_t salted[WORDS], read[WORDS];
+    static uint8_t image[BTREAP_LONGEST_IMAGE];
+    second_workshop(salted, SALT);
+    printf("under a salt, tables agree: %s\n", memcmp(salted, table, sizeof salted) == 0 ? "yes" : "no");
+    look_up(salted, 512);
+    struct btreap_sized sent = btreap_write(salted, WORDS, image, sizeof image);
+    accept("write", sent.refusal);
+    printf("image: %" PRIu64 " bytes\n", sent.size);
+    memcpy(read, table, sizeof read);
+    accept("read", btreap_read(read, WORDS, image, sent.size));
+    printf("read by another: %s\n", memcmp(read, salted, sizeof read) == 0 ? "yes" : "no");
+}
+
 /* The five keys on a page, to be pinned up. */
 static void print_pages(const uint64_t *table)
 {
@@ -140,7 +160,7 @@ int main(void)
     static uint8_t one[BTREAP_LONGEST_IMAGE], other[BTREAP_LONGEST_IMAGE], text[10 * BTREAP_LONGEST_IMAGE];
 
     first_workshop(first);
-    second_workshop(second);
+    second_workshop(second, NO_SALT);
     print_keys(first);
     printf("tables agree: %s\n", memcmp(first, second, sizeof first) == 0 ? "yes" : "no");
 
@@ -169,5 +189,6 @@ int main(void)
 
     compare_loads();
     print_pages(first);
+    under_a_salt(first);
     return 0;
 }

@@ -1,11 +1,16 @@
 //! A safe wrapper of `libbtreap.a`: a set of 64-bit keys, each with its measure, kept in words that the caller lends, whose every word
-//! depends only on the order, the number of slots and the set. Each call takes any words, numbers and bytes; one that refuses changes none of
-//! the lent memory.
+//! depends only on the order, the salt, the number of slots and the set. Each call takes any words, numbers and bytes; one that refuses
+//! changes none of the lent memory.
+//!
+//! A table's salt is any 64-bit number, chosen at [`set_up`] or [`build`]; 0 is none. How keys rank and in which slots they stand goes by
+//! their exclusive or with it, so that a maker with a salt of its own has priorities that no neighbour's library shares. What the calls
+//! answer of a table's keys goes by the table's own salt. It is no secret: table and image show it.
 //!
 //! ```
 //! use btreap::Measure;
 //! let mut table = vec![0; btreap::table_words(64)];
-//! btreap::set_up(&mut table, 8)?;
+//! let (order, salt) = (8, 0x5EED);
+//! btreap::set_up(&mut table, order, salt)?;
 //! btreap::insert(&mut table, 42)?;
 //! assert!(btreap::look_up(&table, 42)?.is_held());
 //! let measure = Measure::new(26_500, -120);
@@ -30,11 +35,11 @@ pub use sys::Question;
 pub const MOST_SLOTS: usize = 4096;
 
 /// No image has more bytes.
-pub const LONGEST_IMAGE: usize = 15 + 50 * MOST_SLOTS;
+pub const LONGEST_IMAGE: usize = 23 + 50 * MOST_SLOTS;
 
 /// The words of a table of so many slots.
 pub const fn table_words(slots: usize) -> usize {
-    3 + 8 * slots
+    4 + 8 * slots
 }
 
 /// Why a call was turned down. Of several refusals the one is given that the call names first; each call names its refusals by rising
@@ -56,7 +61,7 @@ pub enum Refusal {
 }
 
 const REFUSALS: [(Refusal, &str); 12] = [
-    (Refusal::WrongLength, "the number of words is not 3 + 8·M for 1 to 4,096 slots"),
+    (Refusal::WrongLength, "the number of words is not 4 + 8·M for 1 to 4,096 slots"),
     (Refusal::WrongOrder, "the order is outside 3 to 255"),
     (Refusal::ZeroKey, "the key is zero"),
     (Refusal::LowAboveHigh, "low is above high"),
@@ -148,10 +153,10 @@ impl Place {
     }
 }
 
-/// Make of any words the blank table of an order. Refusals: 1, 2.
-pub fn set_up(table: &mut [u64], order: u64) -> Result<(), Refusal> {
+/// Make of any words the blank table of an order and a salt. Refusals: 1, 2.
+pub fn set_up(table: &mut [u64], order: u64, salt: u64) -> Result<(), Refusal> {
     // SAFETY: the pointer and the length are one live slice's, which nothing else uses during the call.
-    let refusal = unsafe { sys::btreap_set_up(table.as_mut_ptr(), table.len(), order) };
+    let refusal = unsafe { sys::btreap_set_up(table.as_mut_ptr(), table.len(), order, salt) };
     unless_refused(refusal, ())
 }
 
@@ -159,36 +164,44 @@ pub fn set_up(table: &mut [u64], order: u64) -> Result<(), Refusal> {
 static NO_LENGTHS: [u64; MOST_SLOTS] = [0; MOST_SLOTS];
 static NO_CORRECTIONS: [i32; MOST_SLOTS] = [0; MOST_SLOTS];
 
-/// Make of any words the table of an order and a strictly rising list of keys, of which none is measured. It allocates nothing, but where
-/// there are more than [`MOST_SLOTS`] keys, which is refused: then two lists of as many zeros. Refusals: 1, 2, 5, 10.
-pub fn build(table: &mut [u64], order: u64, keys: &[u64]) -> Result<(), Refusal> {
+/// Make of any words the table of an order, a salt and a strictly rising list of keys, of which none is measured. It allocates nothing, but
+/// where there are more than [`MOST_SLOTS`] keys, which is refused: then two lists of as many zeros. Refusals: 1, 2, 5, 10.
+pub fn build(table: &mut [u64], order: u64, salt: u64, keys: &[u64]) -> Result<(), Refusal> {
     let number = keys.len();
     match (NO_LENGTHS.get(..number), NO_CORRECTIONS.get(..number)) {
-        (Some(lengths), Some(corrections)) => build_measured(table, order, keys, lengths, corrections),
+        (Some(lengths), Some(corrections)) => build_measured(table, order, salt, keys, lengths, corrections),
         // Too many keys for any table. Shorter lists would be refused with 12 where 10 is due.
-        _ => build_measured(table, order, keys, &vec![0; number], &vec![0; number]),
+        _ => build_measured(table, order, salt, keys, &vec![0; number], &vec![0; number]),
     }
 }
 
-/// Make of any words the table of an order and a strictly rising list of keys, each with the length and the correction at its place of the
-/// other two lists; these are as long as the first. Refusals: 1, 2, 5, 12, 10.
+/// Make of any words the table of an order, a salt and a strictly rising list of keys, each with the length and the correction at its place
+/// of the other two lists; these are as long as the first. Refusals: 1, 2, 5, 12, 10.
 ///
 /// ```
 /// use btreap::{Measure, Refusal};
 /// let mut table = vec![0; btreap::table_words(64)];
-/// btreap::build_measured(&mut table, 8, &[7, 42], &[0, 26_500], &[0, -120])?;
+/// btreap::build_measured(&mut table, 8, 0, &[7, 42], &[0, 26_500], &[0, -120])?;
 /// assert_eq!(btreap::look_up(&table, 7)?.measure(), None);
 /// assert_eq!(btreap::look_up(&table, 42)?.measure(), Some(Measure::new(26_500, -120)));
-/// assert_eq!(btreap::build_measured(&mut table, 8, &[7, 42], &[26_500], &[0]), Err(Refusal::WrongMeasure));
+/// assert_eq!(btreap::build_measured(&mut table, 8, 0, &[7, 42], &[26_500], &[0]), Err(Refusal::WrongMeasure));
 /// # Ok::<(), Refusal>(())
 /// ```
-pub fn build_measured(table: &mut [u64], order: u64, keys: &[u64], lengths: &[u64], corrections: &[i32]) -> Result<(), Refusal> {
+pub fn build_measured(
+    table: &mut [u64],
+    order: u64,
+    salt: u64,
+    keys: &[u64],
+    lengths: &[u64],
+    corrections: &[i32],
+) -> Result<(), Refusal> {
     // SAFETY: as in `set_up`; a mutable and a shared slice do not overlap.
     let refusal = unsafe {
         sys::btreap_build(
             table.as_mut_ptr(),
             table.len(),
             order,
+            salt,
             keys.as_ptr(),
             keys.len(),
             lengths.as_ptr(),
@@ -200,8 +213,8 @@ pub fn build_measured(table: &mut [u64], order: u64, keys: &[u64], lengths: &[u6
     unless_refused(refusal, ())
 }
 
-/// Make of any words the blank table of an order, and do on it `count` operations that the seed alone determines: a load that anyone can
-/// run again. Each operation first sets `seed` to 6364136223846793005·seed + 1442695040888963407, modulo 2^64. Its key is then
+/// Make of any words the blank table of an order and the salt 0, and do on it `count` operations that the seed alone determines: a load that
+/// anyone can run again. Each operation first sets `seed` to 6364136223846793005·seed + 1442695040888963407, modulo 2^64. Its key is then
 /// `(seed >> 32) % 512 + 1`, and `seed >> 62` chooses: 0 or 1 insert, 2 delete, 3 lookup. No key is measured. An operation that is turned
 /// down counts as done. Refusals: 1, 2.
 pub fn load(table: &mut [u64], order: u64, seed: u64, count: u16) -> Result<(), Refusal> {
@@ -251,7 +264,7 @@ pub fn look_up(table: &[u64], key: u64) -> Result<Found, Refusal> {
 /// ```
 /// use btreap::Question;
 /// let mut table = vec![0; btreap::table_words(64)];
-/// btreap::build(&mut table, 8, &[7, 42])?;
+/// btreap::build(&mut table, 8, 0, &[7, 42])?;
 /// let mut batch = [7, 8, 42].map(Question::new);
 /// assert_eq!(btreap::look_up_batch(&table, &mut batch), Ok(1));
 /// assert_eq!(batch.map(Question::is_held), [true, false, true]);
@@ -285,14 +298,15 @@ pub fn write(table: &[u64], out: &mut [u8]) -> Result<usize, Refusal> {
     unless_refused(reply.refusal, reply.size as usize)
 }
 
-/// Make of any words the table whose image the bytes are. Refusals: 1, 6, 10.
+/// Make of any words the table whose image the bytes are: of its order, salt and set, whatever the table's salt was. Refusals: 1, 6, 10.
 pub fn read(table: &mut [u64], image: &[u8]) -> Result<(), Refusal> {
     // SAFETY: as in `build_measured`.
     let refusal = unsafe { sys::btreap_read(table.as_mut_ptr(), table.len(), image.as_ptr(), image.len()) };
     unless_refused(refusal, ())
 }
 
-/// Write the text of an image at the start of `out`; how many bytes it has. Refusals: 6, 11.
+/// Write the text of an image at the start of `out`; how many bytes it has. Neither links nor measures nor the salt are shown.
+/// Refusals: 6, 11.
 ///
 /// The `fill` in its first line is how full the blocks are, in percent: of order a, n keys in b blocks,
 /// 100·n / ((2a − 1) + (b − 1)·(2a − 2)) rounded down, 0 without keys, since the root block, which is the first,

@@ -26,7 +26,7 @@ pub const fn pages_bytes(keys: usize) -> usize {
 ///
 /// ```
 /// let mut table = vec![0; btreap::table_words(64)];
-/// btreap::build_measured(&mut table, 8, &[42], &[26_500], &[0])?;
+/// btreap::build_measured(&mut table, 8, 0, &[42], &[26_500], &[0])?;
 /// let mut text = vec![0; btreap::pages_bytes(1)];
 /// assert_eq!(btreap::pages(&table, &mut text), Ok(text.len()));
 /// assert_eq!(text, b"PAGE 0001\n000000000000002A    0    1 0000000000000000 40.0\n");

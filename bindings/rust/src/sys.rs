@@ -64,11 +64,12 @@ pub struct Question {
 }
 
 extern "C" {
-    pub fn btreap_set_up(table: *mut u64, words: usize, order: u64) -> u64;
+    pub fn btreap_set_up(table: *mut u64, words: usize, order: u64, salt: u64) -> u64;
     pub fn btreap_build(
         table: *mut u64,
         words: usize,
         order: u64,
+        salt: u64,
         keys: *const u64,
         n: usize,
         lengths: *const u64,

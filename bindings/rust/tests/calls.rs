@@ -13,11 +13,11 @@ fn each_refusal_has_its_number() {
     let mut table = table_of(SLOTS, &[5, 7]);
     let mut full = table_of(SLOTS, &[5, 7, 9]);
     let refused = [
-        btreap::set_up(&mut table[1..], 3).unwrap_err(),
-        btreap::set_up(&mut table, 2).unwrap_err(),
+        btreap::set_up(&mut table[1..], 3, 0).unwrap_err(),
+        btreap::set_up(&mut table, 2, 0).unwrap_err(),
         btreap::insert(&mut table, 0).unwrap_err(),
         btreap::range(&table, 2, 1, &mut []).unwrap_err(),
-        btreap::build(&mut table, 3, &[7, 5]).unwrap_err(),
+        btreap::build(&mut table, 3, 0, &[7, 5]).unwrap_err(),
         btreap::read(&mut table, b"no image").unwrap_err(),
         btreap::look_up(&unsound(SLOTS), 5).unwrap_err(),
         btreap::insert(&mut table, 5).unwrap_err(),
@@ -75,7 +75,7 @@ fn a_load_over_any_words_is_a_build_of_what_it_leaves() {
             let mut loaded = vec![seed ^ 77; btreap::table_words(slots)];
             let mut built = vec![99; loaded.len()];
             btreap::load(&mut loaded, 5, seed, count).unwrap();
-            btreap::build(&mut built, 5, &keys_by_the_rules(slots, seed, count)).unwrap();
+            btreap::build(&mut built, 5, 0, &keys_by_the_rules(slots, seed, count)).unwrap();
             assert_eq!(loaded, built);
         }
     }
@@ -85,7 +85,7 @@ fn a_load_over_any_words_is_a_build_of_what_it_leaves() {
 fn a_load_of_nothing_leaves_the_blank_table() {
     let (mut loaded, mut blank) = (table_of(SLOTS, &[5, 7]), unsound(SLOTS));
     btreap::load(&mut loaded, 255, 12345, 0).unwrap();
-    btreap::set_up(&mut blank, 255).unwrap();
+    btreap::set_up(&mut blank, 255, 0).unwrap();
     assert_eq!(loaded, blank);
 }
 

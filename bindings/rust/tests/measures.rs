@@ -91,7 +91,7 @@ fn an_inserted_measure_is_found() {
         let found = btreap::look_up(&table, 5).unwrap();
         assert_eq!(found.measure(), Some(measure).filter(|_| measure != Measure::NONE));
         let stored = if measure.is_measured() { measure.correction + 5_000 } else { 0 };
-        assert_eq!(table, [3, 1, 5, 5, 0, 0, 0, 0, 1, measure.length, stored as u64]);
+        assert_eq!(table, [3, 1, 5, 0, 5, 0, 0, 0, 0, 1, measure.length, stored as u64]);
     }
 }
 
@@ -100,7 +100,7 @@ fn an_inserted_measure_is_found() {
 fn mixed_sets_are_the_same_however_reached() {
     let (keys, lengths, corrections) = ([5, 7, 9], [10_000, 0, 40_000], [-5_000, 0, 5_000]);
     let mut built = vec![9; btreap::table_words(SLOTS)];
-    btreap::build_measured(&mut built, 3, &keys, &lengths, &corrections).unwrap();
+    btreap::build_measured(&mut built, 3, 0, &keys, &lengths, &corrections).unwrap();
     for order in [[0, 1, 2], [1, 2, 0], [2, 1, 0]] {
         let mut inserted = table_of(SLOTS, &[]);
         for i in order {
@@ -175,14 +175,14 @@ fn refusals_of_a_build_in_their_order() {
     let mut table = table_of(1, &[5]);
     for (lengths, corrections) in lists {
         let mut build =
-            |from: usize, order: u64, keys: &[u64]| btreap::build_measured(&mut table[from..], order, keys, lengths, corrections);
+            |from: usize, order: u64, keys: &[u64]| btreap::build_measured(&mut table[from..], order, 0, keys, lengths, corrections);
         assert_eq!(build(1, 2, &[7, 5]), Err(Refusal::WrongLength));
         assert_eq!(build(0, 2, &[7, 5]), Err(Refusal::WrongOrder));
         assert_eq!(build(0, 3, &[7, 5]), Err(Refusal::NotRising));
         assert_eq!(build(0, 3, &[5, 7]), Err(Refusal::WrongMeasure));
     }
-    assert_eq!(btreap::build_measured(&mut table, 3, &[5, 7], &[10_000, 0], &[0, 0]), Err(Refusal::TooManyKeys));
-    assert_eq!(btreap::build(&mut table, 3, &[5, 7]), Err(Refusal::TooManyKeys));
+    assert_eq!(btreap::build_measured(&mut table, 3, 0, &[5, 7], &[10_000, 0], &[0, 0]), Err(Refusal::TooManyKeys));
+    assert_eq!(btreap::build(&mut table, 3, 0, &[5, 7]), Err(Refusal::TooManyKeys));
     assert_eq!(table, table_of(1, &[5]));
 }
 
@@ -197,10 +197,10 @@ fn a_plain_build_of_the_most_keys_and_more() {
     for number in [most + 1, 70_000] {
         let keys: Vec<u64> = (1..=number).collect();
         let falling: Vec<u64> = (1..=number).rev().collect();
-        assert_eq!(btreap::build(&mut table[1..], 2, &falling), Err(Refusal::WrongLength));
-        assert_eq!(btreap::build(&mut table, 2, &falling), Err(Refusal::WrongOrder));
-        assert_eq!(btreap::build(&mut table, 3, &falling), Err(Refusal::NotRising));
-        assert_eq!(btreap::build(&mut table, 3, &keys), Err(Refusal::TooManyKeys));
+        assert_eq!(btreap::build(&mut table[1..], 2, 0, &falling), Err(Refusal::WrongLength));
+        assert_eq!(btreap::build(&mut table, 2, 0, &falling), Err(Refusal::WrongOrder));
+        assert_eq!(btreap::build(&mut table, 3, 0, &falling), Err(Refusal::NotRising));
+        assert_eq!(btreap::build(&mut table, 3, 0, &keys), Err(Refusal::TooManyKeys));
     }
     assert_eq!(table, full);
 }

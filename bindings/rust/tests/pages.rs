@@ -38,7 +38,7 @@ fn an_empty_library_is_one_page_with_no_key_lines() {
 fn a_page() {
     let mut table = vec![0; btreap::table_words(64)];
     let (lengths, corrections) = ([0, 0, 31_000, 26_500, 0], [0, 0, 45, -120, 0]);
-    btreap::build_measured(&mut table, 3, &[7, 8, 41, 512, 3000], &lengths, &corrections).unwrap();
+    btreap::build_measured(&mut table, 3, 0, &[7, 8, 41, 512, 3000], &lengths, &corrections).unwrap();
     let text = "PAGE 0001
 0000000000000007    0    1 0000000000000029    -
 0000000000000008    0    2 0000000000000029    -

@@ -4,9 +4,13 @@ use btreap::{Found, Measure, Place, Question, Refusal};
 
 const SLOTS: usize = 64;
 
+/// The two workshops have no salt; a neighbour has one of its own.
+const NO_SALT: u64 = 0;
+const SALT: u64 = 0x5EED;
+
 /// The first workshop inserts keys one by one, one too many, and deletes that one. Lasts 512 and 41 are measured.
 fn first_workshop(table: &mut [u64]) -> Result<(), Refusal> {
-    btreap::set_up(table, 3)?;
+    btreap::set_up(table, 3, NO_SALT)?;
     btreap::insert_measured(table, 512, Measure::new(26_500, -120))?;
     for key in [7, 99, 3000, 8] {
         btreap::insert(table, key)?;
@@ -16,9 +20,9 @@ fn first_workshop(table: &mut [u64]) -> Result<(), Refusal> {
     Ok(())
 }
 
-/// The second builds its table from a rising list of keys, and their lengths and corrections.
-fn second_workshop(table: &mut [u64]) -> Result<(), Refusal> {
-    btreap::build_measured(table, 3, &[7, 8, 41, 512, 3000], &[0, 0, 31_000, 26_500, 0], &[0, 0, 45, -120, 0])
+/// The second builds its table from a rising list of keys, and their lengths and corrections. So does the neighbour.
+fn second_workshop(table: &mut [u64], salt: u64) -> Result<(), Refusal> {
+    btreap::build_measured(table, 3, salt, &[7, 8, 41, 512, 3000], &[0, 0, 31_000, 26_500, 0], &[0, 0, 45, -120, 0])
 }
 
 /// What a lookup says of a held key.
@@ -36,7 +40,7 @@ fn look_up(table: &[u64], key: u64) -> Result<(), Refusal> {
 /// Whether a key with this measure is taken, or refused for it.
 fn try_measure(length: u64, correction: i32) -> Result<(), Refusal> {
     let mut table = vec![0; btreap::table_words(1)];
-    btreap::set_up(&mut table, 3)?;
+    btreap::set_up(&mut table, 3, NO_SALT)?;
     let reply = match btreap::insert_measured(&mut table, 7, Measure::new(length, correction)) {
         Err(Refusal::WrongMeasure) => "refused",
         other => other.map(|_| "taken")?,
@@ -124,12 +128,26 @@ fn print_pages(table: &[u64]) -> Result<(), Refusal> {
     Ok(())
 }
 
+/// Under a salt the same lasts have other ranks and slots: another table, another image. Whoever reads the image gets the salt along with them.
+fn under_a_salt(table: &[u64]) -> Result<(), Refusal> {
+    let mut salted = vec![0; btreap::table_words(SLOTS)];
+    second_workshop(&mut salted, SALT)?;
+    println!("under a salt, tables agree: {}", yes_or_no(salted == table));
+    look_up(&salted, 512)?;
+    let image = image_of(&salted)?;
+    println!("image: {} bytes", image.len());
+    let mut read = table.to_vec();
+    btreap::read(&mut read, &image)?;
+    println!("read by another: {}", yes_or_no(read == salted));
+    Ok(())
+}
+
 fn main() -> Result<(), Refusal> {
     let mut first = vec![0; btreap::table_words(SLOTS)];
     let mut second = first.clone();
     let mut third = first.clone();
     first_workshop(&mut first)?;
-    second_workshop(&mut second)?;
+    second_workshop(&mut second, NO_SALT)?;
     print_keys(&first)?;
     println!("tables agree: {}", yes_or_no(first == second));
 
@@ -156,5 +174,6 @@ fn main() -> Result<(), Refusal> {
     print!("{}", String::from_utf8_lossy(&text[..size]));
 
     compare_loads()?;
-    print_pages(&first)
+    print_pages(&first)?;
+    under_a_salt(&first)
 }

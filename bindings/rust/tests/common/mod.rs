@@ -1,9 +1,9 @@
 //! Tables that the tests ask.
 
-/// The table of order 3 and these keys.
+/// The table of order 3, no salt and these keys.
 pub fn table_of(slots: usize, keys: &[u64]) -> Vec<u64> {
     let mut table = vec![0; btreap::table_words(slots)];
-    btreap::build(&mut table, 3, keys).unwrap();
+    btreap::build(&mut table, 3, 0, keys).unwrap();
     table
 }
 
