@@ -74,8 +74,8 @@ impl Lent {
         // SAFETY: each address goes with its own length, and no two overlap.
         let reply = unsafe {
             match *call {
-                Call::SetUp { order } => plain(sys::btreap_set_up(t, n, order)),
-                Call::Build { order, .. } => plain(self.build(order, empty)),
+                Call::SetUp { order, salt } => plain(sys::btreap_set_up(t, n, order, salt)),
+                Call::Build { order, salt, .. } => plain(self.build(order, salt, empty)),
                 Call::Load { order, seed, count } => {
                     plain(sys::btreap_load(t, n, order, seed, count))
                 }
@@ -106,7 +106,7 @@ impl Lent {
     /// # Safety
     ///
     /// Nobody else uses the table.
-    unsafe fn build(&self, order: u64, empty: Empty) -> u64 {
+    unsafe fn build(&self, order: u64, salt: u64, empty: Empty) -> u64 {
         let (t, n) = lend(&self.table, empty);
         let (keys, number) = lend(&self.keys, empty);
         let (lengths, as_many) = lend(&self.lengths, empty);
@@ -115,6 +115,7 @@ impl Lent {
             t,
             n,
             order,
+            salt,
             keys,
             number,
             lengths,

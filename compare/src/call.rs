@@ -5,6 +5,7 @@ use crate::pages::Access;
 use btreap::Question;
 use reference::calls;
 use reference::measure::Measure;
+use reference::Contents;
 use std::fmt;
 
 /// The three numbers of a place as they are handed to a step. A mark that is
@@ -36,8 +37,8 @@ impl Place {
 /// A call. `room` is the length of the output that it is lent.
 #[derive(Clone, PartialEq, Eq)]
 pub enum Call {
-    SetUp { order: u64 },
-    Build { order: u64, list: List },
+    SetUp { order: u64, salt: u64 },
+    Build { order: u64, salt: u64, list: List },
     Load { order: u64, seed: u64, count: u16 },
     Insert { key: u64, measure: Measure },
     Delete { key: u64 },
@@ -59,10 +60,13 @@ impl Call {
         Call::Insert { key, measure }
     }
 
-    /// The build of keys of which none is measured.
-    pub fn build(order: u64, keys: &[u64]) -> Call {
-        let list = List::unmeasured(keys);
-        Call::Build { order, list }
+    /// The build of an order, a salt and a set.
+    pub fn build(contents: &Contents) -> Call {
+        Call::Build {
+            order: contents.order,
+            salt: contents.salt,
+            list: List::of(contents),
+        }
     }
 
     /// What the call is lent the table for.
@@ -138,8 +142,10 @@ impl Call {
 impl fmt::Debug for Call {
     fn fmt(&self, out: &mut fmt::Formatter) -> fmt::Result {
         match self {
-            Call::SetUp { order } => write!(out, "set-up, order {order}"),
-            Call::Build { order, list } => write!(out, "build, order {order}, {list:?}"),
+            Call::SetUp { order, salt } => write!(out, "set-up, order {order}, salt {salt}"),
+            Call::Build { order, salt, list } => {
+                write!(out, "build, order {order}, salt {salt}, {list:?}")
+            }
             Call::Load { order, seed, count } => {
                 write!(out, "load, order {order}, {count} operations from {seed}")
             }

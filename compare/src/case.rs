@@ -7,9 +7,11 @@ use crate::ceiling::ceiling_faults;
 use crate::fill::listing_faults;
 use crate::outcome::{differences, refusal_faults, Outcome};
 use crate::random::Random;
+use crate::salts;
 use crate::second_program::run_second_program;
-use crate::tables::{keys_in, measured_table, slots_of, sound_table};
-use reference::Set;
+use crate::tables::{keys_in, slots_of, sound_table};
+use reference::table::HEADER_WORDS;
+use reference::Contents;
 use std::panic::{catch_unwind, AssertUnwindSafe};
 use std::time::Instant;
 
@@ -85,14 +87,24 @@ pub struct Case<'a> {
 }
 
 impl Case<'_> {
-    /// Lends a sound table from now on, none of its keys measured.
-    pub fn lend_sound(&mut self, slots: usize, order: u64, keys: &[u64]) {
-        self.table = sound_table(slots, order, keys);
+    /// A salt that hangs on no keys.
+    pub fn salt(&mut self) -> u64 {
+        salts::any(&mut self.random)
     }
 
-    /// The same with measures.
-    pub fn lend_measured(&mut self, slots: usize, order: u64, set: &Set) {
-        self.table = measured_table(slots, order, set);
+    /// An order and the keys, under some salt and measured or not.
+    pub fn contents(&mut self, order: u64, keys: &[u64]) -> Contents {
+        salts::contents(order, keys, &mut self.random)
+    }
+
+    /// The same under that salt.
+    pub fn contents_under(&mut self, salt: u64, order: u64, keys: &[u64]) -> Contents {
+        salts::contents_under(salt, order, keys, &mut self.random)
+    }
+
+    /// Lends a sound table from now on.
+    pub fn lend(&mut self, slots: usize, contents: &Contents) {
+        self.table = sound_table(slots, contents);
     }
 
     /// Makes the call by both programs and compares.
@@ -195,9 +207,9 @@ impl Case<'_> {
 }
 
 fn describe_table(table: &[u64]) -> String {
-    let header = &table[..table.len().min(3)];
+    let header = &table[..table.len().min(HEADER_WORDS)];
     format!(
-        "{} words, slots {:?}, order, number and root {header:?}, keys {}",
+        "{} words, slots {:?}, order, number, root and salt {header:?}, keys {}",
         table.len(),
         slots_of(table),
         short(&keys_in(table))

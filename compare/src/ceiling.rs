@@ -43,12 +43,14 @@ mod tests {
     use crate::keys::keys_at;
     use crate::second_program::run_second_program;
     use crate::tables::{slot_start, sound_table};
+    use reference::Contents;
 
     /// Document 01's example F: five keys of order 3 in one block, where the ceiling is
     /// two; a table and the lookup of its least key.
     fn example_f() -> (Vec<u64>, Call, Outcome) {
-        let keys = keys_at(&[3, 1, 0, 2, 4]);
-        let table = sound_table(5, 3, &keys);
+        let salt = 77;
+        let keys = keys_at(salt, &[3, 1, 0, 2, 4]);
+        let table = sound_table(5, &Contents::unmeasured(3, &keys).salted(salt));
         let call = Call::LookUp { key: keys[0] };
         let outcome = run_second_program(&call, &table);
         (table, call, outcome)

@@ -120,10 +120,11 @@ mod tests {
     use super::*;
     use crate::second_program::run_second_program;
     use crate::tables::image_of;
+    use reference::Contents;
 
     /// The listing of these keys of order 3, and more room than it takes.
     fn listed(keys: &[u64]) -> (Call, Outcome) {
-        let (image, room) = (image_of(3, keys), 1000);
+        let (image, room) = (image_of(&Contents::unmeasured(3, keys)), 1000);
         let call = Call::List { image, room };
         let outcome = run_second_program(&call, &[]);
         (call, outcome)

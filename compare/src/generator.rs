@@ -4,10 +4,12 @@
 use crate::batches::random_batch;
 use crate::call::{Call, Place};
 use crate::list::List;
-use crate::measures::{self, random_set, spoil_measures};
+use crate::measures::{self, spoil_measures};
 use crate::outcome::Outcome;
 use crate::random::Random;
-use crate::tables::{image_length, keys_in, listing_length, measured_image, pages_length, set_in};
+use crate::salts;
+use crate::tables::{contents_in, image_length, image_of, keys_in, listing_length, pages_length};
+use reference::Contents;
 
 /// How many of a hundred calls are of each kind.
 const SHARES: [(usize, Kind); 14] = [
@@ -80,11 +82,9 @@ impl Generator {
         match kind(random) {
             Kind::SetUp => Call::SetUp {
                 order: order(random),
+                salt: salts::for_keys(&held, random),
             },
-            Kind::Build => Call::Build {
-                order: order(random),
-                list: self.list(random),
-            },
+            Kind::Build => self.build(random),
             Kind::Load => load(order(random), random),
             Kind::Insert => Call::Insert {
                 key: self.key(&held, 4, random),
@@ -131,22 +131,23 @@ impl Generator {
         }
     }
 
-    /// Lists to build from: now and then too long, or with a fault of the keys or of
-    /// the measures, or both.
-    fn list(&self, random: &mut Random) -> List {
+    /// A build: now and then of too many keys, or with a fault of the keys or of the
+    /// measures, or both.
+    fn build(&self, random: &mut Random) -> Call {
         let number = match random.below(8) {
             0 => self.slots + 1,
             _ => random.fill(self.slots),
         };
-        let keys = random.keys(number);
-        let mut list = List::of(&random_set(&keys, random));
+        let contents = some_contents(order(random), number, random);
+        let mut list = List::of(&contents);
         if random.once_in(6) {
             spoil_measures(&mut list, random);
         }
         if random.once_in(6) {
             spoil_list(&mut list.keys, random);
         }
-        list
+        let (order, salt) = (contents.order, contents.salt);
+        Call::Build { order, salt, list }
     }
 
     fn range(&self, held: &[u64], random: &mut Random) -> Call {
@@ -177,14 +178,13 @@ impl Generator {
     /// keys than slots or have a fault.
     fn image(&self, table: &[u64], random: &mut Random) -> Vec<u8> {
         if random.once_in(6) {
-            return measured_image(table[0], &set_in(table));
+            return image_of(&contents_in(table));
         }
         let number = match random.below(6) {
             0 => self.slots + 1 + random.below(3),
             _ => random.fill(self.slots),
         };
-        let keys = random.keys(number);
-        let mut image = measured_image(random.order(), &random_set(&keys, random));
+        let mut image = image_of(&some_contents(random.order(), number, random));
         if random.once_in(5) {
             spoil_image(&mut image, random);
         }
@@ -193,9 +193,9 @@ impl Generator {
 
     fn list_image(&self, random: &mut Random) -> Call {
         let number = random.fill(self.slots);
-        let (order, keys) = (random.order(), random.keys(number));
-        let mut image = measured_image(order, &random_set(&keys, random));
-        let room = room(listing_length(order, &keys), random);
+        let contents = some_contents(random.order(), number, random);
+        let mut image = image_of(&contents);
+        let room = room(listing_length(&contents), random);
         if random.once_in(5) {
             spoil_image(&mut image, random);
         }
@@ -212,6 +212,12 @@ fn kind(random: &mut Random) -> Kind {
         rest -= share;
     }
     unreachable!("the shares come to a hundred")
+}
+
+/// An order and so many keys.
+fn some_contents(order: u64, number: usize, random: &mut Random) -> Contents {
+    let keys = random.keys(number);
+    salts::contents(order, &keys, random)
 }
 
 fn order(random: &mut Random) -> u64 {

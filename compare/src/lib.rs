@@ -16,6 +16,7 @@ pub mod outcome;
 pub mod pages;
 pub mod random;
 pub mod run;
+pub mod salts;
 pub mod second_program;
 pub mod sections;
 pub mod tables;

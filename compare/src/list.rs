@@ -1,7 +1,7 @@
 //! The three lists of a build.
 
 use crate::call::short;
-use reference::Set;
+use reference::Contents;
 use std::fmt;
 
 /// Keys, and a length and a correction for each; or any other lists.
@@ -22,12 +22,11 @@ impl List {
         }
     }
 
-    pub fn of(set: &Set) -> List {
-        let measures = set.values();
+    pub fn of(contents: &Contents) -> List {
         List {
-            keys: set.keys().copied().collect(),
-            lengths: measures.clone().map(|measure| measure.length).collect(),
-            corrections: measures.map(|measure| measure.correction).collect(),
+            keys: contents.keys(),
+            lengths: contents.lengths(),
+            corrections: contents.corrections(),
         }
     }
 }

@@ -113,6 +113,7 @@ pub fn spoil_measures(list: &mut List, random: &mut Random) {
 #[cfg(test)]
 mod tests {
     use super::*;
+    use reference::Contents;
 
     fn is_right(list: &List) -> bool {
         let as_many = [list.lengths.len(), list.corrections.len()] == [list.keys.len(); 2];
@@ -140,7 +141,8 @@ mod tests {
                 all if all == number => 1,
                 _ => 2,
             }] += 1;
-            let mut list = List::of(&set);
+            let (order, salt) = (3, 0);
+            let mut list = List::of(&Contents { order, salt, set });
             assert!(is_right(&list));
             spoil_measures(&mut list, &mut random);
             assert!(!is_right(&list));

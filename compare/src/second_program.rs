@@ -13,8 +13,8 @@ use reference::points::{points, PointsReply};
 pub fn run_second_program(call: &Call, table: &[u64]) -> Outcome {
     let mut after = Outcome::untouched(call, table);
     after.reply = match call {
-        Call::SetUp { order } => plain(REAL.set_up(&mut after.table, *order)),
-        Call::Build { order, list } => plain(build(&mut after.table, *order, list)),
+        Call::SetUp { order, salt } => plain(REAL.set_up(&mut after.table, *order, *salt)),
+        Call::Build { order, salt, list } => plain(build(&mut after.table, *order, *salt, list)),
         Call::Load { order, seed, count } => {
             plain(REAL.load(&mut after.table, *order, *seed, *count))
         }
@@ -33,8 +33,13 @@ pub fn run_second_program(call: &Call, table: &[u64]) -> Outcome {
     after
 }
 
-fn build(table: &mut [u64], order: u64, list: &List) -> PlainReply {
-    REAL.build(table, order, &list.keys, &list.lengths, &list.corrections)
+fn build(table: &mut [u64], order: u64, salt: u64, list: &List) -> PlainReply {
+    let List {
+        keys,
+        lengths,
+        corrections,
+    } = list;
+    REAL.build(table, order, salt, keys, lengths, corrections)
 }
 
 /// The second program has a record of its own for a question.

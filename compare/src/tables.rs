@@ -3,8 +3,17 @@
 
 use reference::measure::Measure;
 use reference::priority::priority;
-use reference::table::{self, HEADER_WORDS, SLOT_WORDS};
-use reference::{image, listing, Contents, Set};
+use reference::table::{self, HEADER_WORDS, SALT_WORD, SLOT_WORDS};
+use reference::{image, listing, Contents};
+
+/// The bytes of an image's header, without a salt and with one.
+pub const HEADER: usize = 15;
+pub const SALTED_HEADER: usize = HEADER + 8;
+
+/// The bytes of its other records: a block, a key that is not measured and one that is.
+pub const BLOCK: usize = 14;
+pub const NODE: usize = 30;
+pub const MEASURED_NODE: usize = 36;
 
 /// The length of a table of so many slots.
 pub fn table_length(slots: usize) -> usize {
@@ -16,35 +25,32 @@ pub fn slots_of(table: &[u64]) -> Option<usize> {
     table::slots_of_length(table.len())
 }
 
-fn measured(order: u64, set: &Set) -> Contents {
-    let set = set.clone();
-    Contents { order, set }
+/// The sound table of an order, a salt and a set.
+pub fn sound_table(slots: usize, contents: &Contents) -> Vec<u64> {
+    table::words(&priority, contents, slots)
 }
 
-/// The sound table of an order and rising keys, none of them measured.
-pub fn sound_table(slots: usize, order: u64, keys: &[u64]) -> Vec<u64> {
-    table::words(&priority, &Contents::unmeasured(order, keys), slots)
+/// The image of an order, a salt and a set.
+pub fn image_of(contents: &Contents) -> Vec<u8> {
+    image::image(&priority, contents)
 }
 
-/// The sound table of an order and a set.
-pub fn measured_table(slots: usize, order: u64, set: &Set) -> Vec<u64> {
-    table::words(&priority, &measured(order, set), slots)
+/// The most bytes that the image of so many keys has.
+pub fn longest_image(keys: usize) -> usize {
+    SALTED_HEADER + (BLOCK + MEASURED_NODE) * keys
 }
 
-/// The image of an order and rising keys, none of them measured.
-pub fn image_of(order: u64, keys: &[u64]) -> Vec<u8> {
-    image::image(&priority, &Contents::unmeasured(order, keys))
+/// The bytes of an image's header, as its mark says.
+pub fn header_length(image: &[u8]) -> usize {
+    match image.get(1) {
+        Some(b'S') => SALTED_HEADER,
+        _ => HEADER,
+    }
 }
 
-/// The image of an order and a set.
-pub fn measured_image(order: u64, set: &Set) -> Vec<u8> {
-    image::image(&priority, &measured(order, set))
-}
-
-/// The length of the text of the image of an order and rising keys; measures do
-/// not show in it.
-pub fn listing_length(order: u64, keys: &[u64]) -> usize {
-    listing::listing(&priority, &Contents::unmeasured(order, keys)).len()
+/// The length of the text of an image.
+pub fn listing_length(contents: &Contents) -> usize {
+    listing::listing(&priority, contents).len()
 }
 
 /// The length of the pages of so many keys: 10 bytes for each page, of which there is
@@ -53,16 +59,16 @@ pub fn pages_length(keys: usize) -> usize {
     10 * ((keys + 49) / 50).max(1) + 49 * keys
 }
 
-/// How many blocks an order and rising keys have, as their image says.
-pub fn blocks_of(order: u64, keys: &[u64]) -> u64 {
-    let image = image_of(order, keys);
+/// How many blocks an order, a salt and a set have, as their image says.
+pub fn blocks_of(contents: &Contents) -> u64 {
+    let image = image_of(contents);
     u16::from_le_bytes([image[5], image[6]]).into()
 }
 
-/// The keys that a lookup compares in a table of an order and rising keys; here
-/// they rise too.
-pub fn path_of(order: u64, keys: &[u64], key: u64) -> Vec<u64> {
-    let shape = table::shape_of(&priority, &Contents::unmeasured(order, keys));
+/// The keys that a lookup compares in a table of an order, a salt and a set; here they
+/// rise too.
+pub fn path_of(contents: &Contents, key: u64) -> Vec<u64> {
+    let shape = table::shape_of(&priority, contents);
     let mut path = shape.path(key);
     path.sort_unstable();
     path
@@ -85,11 +91,15 @@ pub fn root_rank_in(table: &[u64]) -> u64 {
     slot.and_then(|slot| slot.get(4)).copied().unwrap_or(0)
 }
 
-/// The keys in the slots of a sound table, with their measures.
-pub fn set_in(table: &[u64]) -> Set {
+/// The order, the salt and the set of a sound table.
+pub fn contents_in(table: &[u64]) -> Contents {
     let slots = table[HEADER_WORDS..].chunks(SLOT_WORDS);
     let held = slots.filter(|slot| slot[0] != 0);
-    held.map(|slot| (slot[0], measure_in(slot))).collect()
+    Contents {
+        order: table[0],
+        salt: table[SALT_WORD],
+        set: held.map(|slot| (slot[0], measure_in(slot))).collect(),
+    }
 }
 
 fn measure_in(slot: &[u64]) -> Measure {
@@ -98,7 +108,7 @@ fn measure_in(slot: &[u64]) -> Measure {
 
 /// The length of the image of a sound table.
 pub fn image_length(table: &[u64]) -> usize {
-    measured_image(table[0], &set_in(table)).len()
+    image_of(&contents_in(table)).len()
 }
 
 /// The word in which a slot begins with its key.

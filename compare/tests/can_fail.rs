@@ -4,18 +4,21 @@
 mod common;
 
 use btreap::Question;
-use common::{accepted_calls, table, KEYS};
+use common::{accepted_calls, contents, table, KEYS, SALT};
 use compare::archive::{run_archive, Empty};
 use compare::call::{Call, Place};
 use compare::case::{Plan, Tally};
 use compare::fill::listing_faults;
-use compare::keys::Chain;
+use compare::keys::{ties, Chain};
 use compare::outcome::{differences, refusal_faults, Outcome};
 use compare::run::{is_good, Total, FEWEST_CALLS};
 use compare::second_program::run_second_program;
-use compare::tables::{image_of, listing_length, pages_length, sound_table};
+use compare::tables::{image_of, listing_length, pages_length, sound_table, HEADER};
 use reference::depths::{full, keys_at};
 use reference::measure::Measure;
+use reference::priority::priority;
+use reference::table::{words, SALT_WORD};
+use reference::{image, Contents};
 
 /// One of each kind that is refused, on a table that is not one.
 fn refused_calls() -> [Call; 14] {
@@ -179,7 +182,7 @@ fn each_wrong_output_cell_is_caught_written_or_beyond() {
             cells[1] += 1;
         }
     }
-    let (listing, pages) = (listing_length(3, &KEYS), pages_length(KEYS.len()));
+    let (listing, pages) = (listing_length(&contents()), pages_length(KEYS.len()));
     assert_eq!(cells, [6, 400 + listing + 4 + pages + 6]);
     let last = |outcome: &mut Outcome| *outcome.bytes.last_mut().unwrap() ^= 1;
     caught(&Call::Write { room: 30 }, &table, last);
@@ -284,8 +287,9 @@ fn a_block_beyond_the_ceiling_is_caught_though_both_agree() {
     let few = [(3, 0, 0), (3, 1, 1), (3, 2, 1), (3, 3, 1), (3, 4, 2)];
     let more = [(8, 8, 1), (8, 9, 2), (255, 255, 1), (255, 256, 2)];
     for (order, number, most) in few.into_iter().chain(more) {
-        let keys = Chain::Right.keys(number);
-        let table = sound_table(number + 1, order, &keys);
+        let keys = Chain::Right.keys(SALT, number);
+        let contents = Contents::unmeasured(order, &keys).salted(SALT);
+        let table = sound_table(number + 1, &contents);
         let key = keys.last().copied().unwrap_or(9);
         let call = Call::LookUp { key };
         let mut both = run_archive(&call, &table, Empty::Address);
@@ -299,11 +303,15 @@ fn a_block_beyond_the_ceiling_is_caught_though_both_agree() {
     }
 }
 
-/// The listing of thirteen keys of order 3, in full blocks of 5, 4 and 4, by both programs
-/// in agreement, with one part of its text put as another: what is wrong with it.
+/// Thirteen keys of order 3, in full blocks of 5, 4 and 4.
+fn full_blocks() -> Contents {
+    Contents::unmeasured(3, &keys_at(SALT, &full(3, 1))).salted(SALT)
+}
+
+/// Their listing by both programs in agreement, with one part of its text put as another: what is wrong with it.
 fn agreed_faults(part: &str, other: &str) -> Vec<String> {
-    let keys = keys_at(&full(3, 1));
-    let (image, room) = (image_of(3, &keys), listing_length(3, &keys));
+    let contents = full_blocks();
+    let (image, room) = (image_of(&contents), listing_length(&contents));
     let call = Call::List { image, room };
     let mut both = run_archive(&call, &table(), Empty::Address);
     for outcome in &mut both {
@@ -336,7 +344,7 @@ fn a_listed_block_beyond_its_ceiling_is_caught_though_both_agree() {
     assert_eq!(faults, [beyond(0, 6, 5)]);
     let faults = agreed_faults("level 1 keys 4", "level 1 keys 5");
     assert_eq!(faults, [beyond(1, 5, 4)]);
-    let last = format!("{:016X} level 1 keys ", keys_at(&full(3, 1))[9]);
+    let last = format!("{:016X} level 1 keys ", full_blocks().keys()[9]);
     let faults = agreed_faults(&format!("{last}4"), &format!("{last}5"));
     assert_eq!(faults, [beyond(2, 5, 4)]);
 }
@@ -388,11 +396,142 @@ fn a_listing_that_cannot_be_read_is_caught_though_both_agree() {
     }
 }
 
+// ---------------------------------------------------------------------------
+// Salts
+
+/// The table is another than the archive's, and is caught in its place.
+#[track_caller]
+fn other_table_is_caught(call: &Call, table: &[u64], other: Vec<u64>) {
+    let [outcome, _] = run_archive(call, table, Empty::Address);
+    assert_ne!(outcome.table, other, "{call:?}");
+    caught(call, table, |outcome| outcome.table.clone_from(&other));
+}
+
+/// The words that would be made if a key's priority were that of another number than its
+/// exclusive or with the salt.
+fn words_by(rule: impl Fn(u64) -> u64 + Sync, slots: usize, contents: &Contents) -> Vec<u64> {
+    let unsalted = contents.clone().salted(0);
+    let mut table = words(&|key| priority(rule(key)), &unsalted, slots);
+    table[SALT_WORD] = contents.salt;
+    table
+}
+
+/// Every call that gives or keeps a salt: the word alone is another, or zero.
+#[test]
+fn a_wrong_salt_word_is_caught() {
+    let image = image_of(&contents());
+    let [set_up, build, insert, delete, ..] = accepted_calls();
+    let (order, seed, count) = (3, 2, 30);
+    let load = Call::Load { order, seed, count };
+    for call in [set_up, build, insert, delete, Call::Read { image }] {
+        caught(&call, &table(), |outcome| outcome.table[SALT_WORD] = 0);
+        caught(&call, &table(), |outcome| outcome.table[SALT_WORD] ^= 1);
+    }
+    caught(&load, &table(), |outcome| outcome.table[SALT_WORD] = SALT);
+}
+
+#[test]
+fn a_salt_that_is_added_or_forgotten_is_caught() {
+    let (call, contents) = (Call::build(&contents()), contents());
+    let added = words_by(|key| key.wrapping_add(SALT), 7, &contents);
+    other_table_is_caught(&call, &table(), added);
+    let forgotten = words_by(|key| key, 7, &contents);
+    other_table_is_caught(&call, &table(), forgotten);
+    let exactly = words_by(|key| key ^ SALT, 7, &contents);
+    assert_eq!(exactly, sound_table(7, &contents));
+}
+
+/// The whole table is then the one of its keys without a salt.
+#[test]
+fn a_salt_that_an_insert_or_a_delete_loses_is_caught() {
+    let measure = Measure::new(10_000, 17);
+    for key in [22, 23] {
+        let mut more = contents();
+        more.set.insert(key, measure);
+        let other = sound_table(7, &more.salted(0));
+        other_table_is_caught(&Call::Insert { key, measure }, &table(), other);
+    }
+    let mut fewer = contents();
+    fewer.set.remove(&8);
+    let other = sound_table(7, &fewer.salted(0));
+    other_table_is_caught(&Call::Delete { key: 8 }, &table(), other);
+}
+
+/// Two keys of equal priority under a salt, the lesser of which has the greater exclusive
+/// or with it: the table in which that one decides.
+#[test]
+fn a_tie_that_the_salted_keys_decide_is_caught() {
+    let (a, b) = ties(u64::MAX)[0];
+    assert!(a < b && a ^ u64::MAX > b ^ u64::MAX);
+    let pair = Contents::unmeasured(3, &[a, b]).salted(u64::MAX);
+    let raised = |key: u64| priority(key) + u64::from(key == b ^ u64::MAX);
+    let other = words(&raised, &pair, 7);
+    other_table_is_caught(&Call::build(&pair), &table(), other);
+}
+
+/// The image of salt zero under `LS`, and the image of a salt without it.
+#[test]
+fn a_wrong_header_is_caught() {
+    let [plain, salted] = [0, SALT].map(|salt| contents().salted(salt));
+    let bytes = image_of(&plain);
+    let zero = [b"LS", &bytes[2..HEADER], &[0; 8], &bytes[HEADER..]].concat();
+    let unsalted = image::image(&|key| priority(key ^ SALT), &plain);
+    for (contents, other) in [(plain, zero), (salted, unsalted)] {
+        let table = sound_table(7, &contents);
+        let call = Call::Write { room: 400 };
+        let [outcome, _] = run_archive(&call, &table, Empty::Address);
+        assert!(!outcome.bytes.starts_with(&other));
+        caught(&call, &table, |outcome| {
+            outcome.bytes[..other.len()].copy_from_slice(&other);
+            outcome.reply.numbers[0].1 = other.len() as u64;
+        });
+    }
+}
+
+/// A reading that takes `LS` with zero for an image without a salt.
+#[test]
+fn a_salt_of_zero_that_is_read_is_caught() {
+    let plain = contents().salted(0);
+    let bytes = image_of(&plain);
+    let image = [b"LS", &bytes[2..HEADER], &[0; 8], &bytes[HEADER..]].concat();
+    let call = Call::Read { image };
+    let [outcome, _] = run_archive(&call, &table(), Empty::Address);
+    assert_eq!(outcome.reply.refusal, 6);
+    caught(&call, &table(), |outcome| {
+        outcome.reply.refusal = 0;
+        outcome.table = sound_table(7, &plain);
+    });
+}
+
+/// A reading of an image without a salt that leaves the table the one it had.
+#[test]
+fn a_salt_that_a_reading_leaves_is_caught() {
+    let image = image_of(&contents().salted(0));
+    let other = sound_table(7, &contents());
+    let mut before = other.clone();
+    before[1] += 1;
+    other_table_is_caught(&Call::Read { image }, &before, other);
+}
+
+/// A judge that does not look at the salt.
+#[test]
+fn a_changed_salt_that_is_not_refused_is_caught() {
+    let mut changed = table();
+    changed[SALT_WORD] += 1;
+    let call = Call::LookUp { key: 21 };
+    let [refused, _] = run_archive(&call, &changed, Empty::Address);
+    assert_eq!(refused.reply.refusal, 7);
+    let [found, _] = run_archive(&call, &table(), Empty::Address);
+    caught(&call, &changed, |outcome| {
+        outcome.reply.clone_from(&found.reply)
+    });
+}
+
 #[test]
 fn a_refusal_other_than_the_one_due_is_caught() {
     let mut tally = Tally::new("can-fail", Plan::default());
     tally.case(|case| {
-        case.lend_sound(2, 3, &[4]);
+        case.lend(2, &Contents::unmeasured(3, &[4]).salted(SALT));
         case.refused(Call::insert(4), 8);
         case.refused(Call::insert(4), 10);
     });

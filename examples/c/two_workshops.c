@@ -129,7 +129,7 @@ static void compare_loads(void)
     printf("images agree: %s\n", sent.size == kept.size && memcmp(one, other, sent.size) == 0 ? "yes" : "no");
 }
 
-/* Under a salt the same lasts have other ranks and slots: another table, another image. Whoever reads the image gets the salt along with them. */
+/* Under a salt the same lasts have other ranks and slots: another table, another image. Whoever reads the image gets the salt with them. */
 static void under_a_salt(const uint64_t *table)
 {
     static uint64_t salted[WORDS], read[WORDS];

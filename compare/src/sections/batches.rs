@@ -5,9 +5,11 @@ use super::{exercise, Section, SLOTS};
 use crate::batches::{neighbours_only, random_batch, some_of, with_neighbours};
 use crate::call::Call;
 use crate::case::{Case, Tally};
-use crate::keys::{keys_at, keys_with_home, parts, permutations, Chain};
+use crate::keys::{keys_at, parts, permutations, Chain, Home};
 use crate::outcome::Outcome;
 use crate::tables::{blocks_of, is_measure_word, make_unsound, path_of, table_length};
+use reference::table::SALT_WORD;
+use reference::Contents;
 
 pub const SECTION: Section = Section {
     name: "batches",
@@ -32,8 +34,8 @@ fn run(tally: &mut Tally) {
         }
     }
     chains(tally);
-    for (slots, home, number) in [(7, 6, 7), (64, 63, 64), (64, 0, 40), (4096, 4095, 3000)] {
-        tally.case(|case| one_home(case, slots, home, number));
+    for (slots, slot, number) in [(7, 6, 7), (64, 63, 64), (64, 0, 40), (4096, 4095, 3000)] {
+        tally.case(|case| one_home(case, Home::new(slots, slot), number));
     }
     for number in [1, 2, 200, 255] {
         tally.case(|case| one_block(case, number));
@@ -70,9 +72,11 @@ fn blocks_met(outcome: &Outcome) -> u64 {
 /// "Lookup of 7 or 8 meets three blocks, of 1 two", in real keys that outrank
 /// each other as there. Together they meet four.
 fn example_e(case: &mut Case) {
-    let keys = keys_at(&[6, 0, 1, 2, 3, 4, 5]);
+    let salt = case.salt();
+    let keys = keys_at(salt, &[6, 0, 1, 2, 3, 4, 5]);
     let (one, seven, eight) = (keys[0], keys[6], keys[6] + 1);
-    exercise::lend_keys(case, 9, 3, &keys);
+    let contents = case.contents_under(salt, 3, &keys);
+    case.lend(9, &contents);
     meets(case, &[seven], 3);
     meets(case, &[eight], 3);
     meets(case, &[one], 2);
@@ -84,20 +88,22 @@ fn example_e(case: &mut Case) {
 fn random_table(case: &mut Case, slots: usize, order: u64) {
     let number = case.random.fill(slots);
     let keys = case.random.keys(number);
-    each_kind(case, slots, order, &keys);
+    let contents = case.contents(order, &keys);
+    each_kind(case, slots, &contents);
 }
 
 /// None, all, the next ones, the keys of whole paths, a few, one; all keys meet
 /// all blocks.
-fn each_kind(case: &mut Case, slots: usize, order: u64, keys: &[u64]) {
-    exercise::lend_keys(case, slots, order, keys);
+fn each_kind(case: &mut Case, slots: usize, contents: &Contents) {
+    let keys = &contents.keys()[..];
+    case.lend(slots, contents);
     meets(case, &[], 0);
-    meets(case, keys, blocks_of(order, keys));
+    meets(case, keys, blocks_of(contents));
     accepted(case, with_neighbours(keys));
     accepted(case, neighbours_only(keys));
     for &key in &some_of(keys, keys.len() / 4 + 1, &mut case.random) {
-        accepted(case, path_of(order, keys, key));
-        accepted(case, path_of(order, keys, key.saturating_add(1)));
+        accepted(case, path_of(contents, key));
+        accepted(case, path_of(contents, key.saturating_add(1)));
         accepted(case, vec![key]);
     }
     for times in [2, 7, 30] {
@@ -133,13 +139,15 @@ fn one_by_one(case: &mut Case, slots: usize) {
 /// Every treap of up to five keys, under every batch of its keys and, up to
 /// three, of these and those next to them.
 fn every_batch(case: &mut Case, places: &[usize]) {
-    let keys = keys_at(places);
+    let salt = case.salt();
+    let keys = keys_at(salt, places);
     let mut asked = keys.clone();
     if keys.len() <= 3 {
         asked = with_neighbours(&keys);
     }
     for order in [3, 4] {
-        exercise::lend_keys(case, keys.len() + 1, order, &keys);
+        let contents = case.contents_under(salt, order, &keys);
+        case.lend(keys.len() + 1, &contents);
         for batch in parts(&asked) {
             accepted(case, batch);
         }
@@ -149,18 +157,26 @@ fn every_batch(case: &mut Case, places: &[usize]) {
 fn chains(tally: &mut Tally) {
     for chain in Chain::ALL {
         for order in [3, 7, 255] {
-            tally.case(|case| each_kind(case, 24, order, &chain.keys(24)));
-            tally.case(|case| each_kind(case, 301, order, &chain.keys(300)));
+            tally.case(|case| one_chain(case, chain, order, 24));
+            tally.case(|case| one_chain(case, chain, order, 300));
         }
     }
     tally.case(|case| longest_chain(case, Chain::Right, 3));
     tally.case(|case| longest_chain(case, Chain::ToAndFro, 16));
 }
 
+fn one_chain(case: &mut Case, chain: Chain, order: u64, number: usize) {
+    let salt = case.salt();
+    let contents = case.contents_under(salt, order, &chain.keys(salt, number));
+    each_kind(case, number + 1, &contents);
+}
+
 /// Its end and some of its keys; all paths of so long a chain would take long.
 fn longest_chain(case: &mut Case, chain: Chain, order: u64) {
-    let keys = chain.keys(4095);
-    exercise::lend_keys(case, 4096, order, &keys);
+    let salt = case.salt();
+    let keys = chain.keys(salt, 4095);
+    let contents = case.contents_under(salt, order, &keys);
+    case.lend(4096, &contents);
     let last = keys[4094];
     accepted(case, vec![last, last + 1]);
     accepted(case, keys[..40].to_vec());
@@ -168,10 +184,10 @@ fn longest_chain(case: &mut Case, chain: Chain, order: u64) {
     accepted(case, some);
 }
 
-fn one_home(case: &mut Case, slots: usize, home: usize, number: usize) {
-    let order = case.random.order();
-    let keys = keys_with_home(0, slots, home, number);
-    each_kind(case, slots, order, &keys);
+fn one_home(case: &mut Case, home: Home, number: usize) {
+    let (order, salt) = (case.random.order(), case.salt());
+    let contents = case.contents_under(salt, order, &home.keys(salt, 0, number));
+    each_kind(case, home.slots, &contents);
 }
 
 /// As many keys as the order are one block at most, whatever is asked.
@@ -239,7 +255,7 @@ fn turned_down(case: &mut Case, slots: usize) {
     let mut unsound = sound.clone();
     make_unsound(&mut unsound);
     let all = [BAD.to_vec(), GOOD.to_vec()].concat();
-    for length in [0, 3, 10, 12, table_length(slots) - 1, 32_779] {
+    for length in [0, 4, 11, 13, table_length(slots) - 1, 32_780] {
         case.table = sound.clone();
         case.table.resize(length, 1);
         all.iter().for_each(|batch| refused(case, batch, 1));
@@ -258,9 +274,10 @@ fn damaged(case: &mut Case, slots: usize) {
     let (order, keys) = (case.random.order(), case.random.keys(number));
     exercise::lend_keys(case, slots, order, &keys);
     let table = case.table.clone();
-    // With another order a table of few keys may be sound as well; so may it with
+    // With another order or salt a table of few keys may be sound as well; so may it with
     // another measure.
-    let words: Vec<usize> = (1..table.len()).filter(|&i| !is_measure_word(i)).collect();
+    let is_sure = |word: &usize| *word != SALT_WORD && !is_measure_word(*word);
+    let words: Vec<usize> = (1..table.len()).filter(is_sure).collect();
     for _ in 0..10 {
         let word = case.random.pick(&words);
         let batch = random_batch(&keys, &mut case.random);

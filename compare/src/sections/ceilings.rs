@@ -46,7 +46,8 @@ fn about_steps(order: usize) -> impl Iterator<Item = usize> {
 fn no_keys(case: &mut Case) {
     for slots in [1, 7, MOST_SLOTS] {
         for (order, _) in FULLEST {
-            exercise::build(case, slots, order, &[]);
+            let contents = case.contents(order, &[]);
+            exercise::build(case, slots, &contents);
             for key in [1, 2, u64::MAX] {
                 answers(case, key, "blocks", 0);
             }
@@ -55,9 +56,11 @@ fn no_keys(case: &mut Case) {
 }
 
 fn reached(case: &mut Case, chain: Chain, order: u64, number: usize) {
-    let keys = chain.keys(number);
+    let salt = case.salt();
+    let keys = chain.keys(salt, number);
     let slots = number + case.random.below(3);
-    exercise::build(case, slots, order, &keys);
+    let contents = case.contents_under(salt, order, &keys);
+    exercise::build(case, slots, &contents);
     let rank = rank_ceiling(order, number as u64);
     let blocks = blocks_ceiling(order, number as u64, rank);
     worst_lookups(case, chain, &keys, [rank, blocks]);
@@ -65,9 +68,11 @@ fn reached(case: &mut Case, chain: Chain, order: u64, number: usize) {
 
 /// As many keys as any table has.
 fn reached_when_full(case: &mut Case, chain: Chain) {
-    let keys = chain.keys(MOST_SLOTS);
+    let salt = case.salt();
+    let keys = chain.keys(salt, MOST_SLOTS);
     for (order, most) in FULLEST {
-        exercise::build(case, MOST_SLOTS, order, &keys);
+        let contents = case.contents_under(salt, order, &keys);
+        exercise::build(case, MOST_SLOTS, &contents);
         worst_lookups(case, chain, &keys, [most, most]);
     }
 }

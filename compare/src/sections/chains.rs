@@ -4,8 +4,7 @@ use super::{exercise, Section};
 use crate::call::{Call, Place};
 use crate::case::{Case, Tally};
 use crate::keys::Chain;
-use crate::measures::random_set;
-use crate::tables::measured_image;
+use crate::tables::{image_of, longest_image};
 
 pub const SECTION: Section = Section {
     name: "chains",
@@ -30,27 +29,31 @@ fn run(tally: &mut Tally) {
 }
 
 fn short_chain(case: &mut Case, chain: Chain, number: usize, order: u64) {
-    let keys = chain.keys(number);
+    let salt = case.salt();
+    let keys = chain.keys(salt, number);
     let slots = number + case.random.below(3);
-    exercise::everything(case, slots, order, &keys);
+    let contents = case.contents_under(salt, order, &keys);
+    exercise::everything(case, slots, &contents);
     exercise::look_up(case, &keys);
     exercise::take_out_and_put_back(case, &keys);
 }
 
 /// A longer one: its ends and some keys between.
 fn long_chain(case: &mut Case, chain: Chain, number: usize, slots: usize, order: u64) {
-    let keys = chain.keys(number);
+    let salt = case.salt();
+    let keys = chain.keys(salt, number);
     let (first, last) = (keys[0], keys[number - 1]);
     let middle = case.random.pick(&keys);
-    exercise::build(case, slots, order, &keys);
+    let contents = case.contents_under(salt, order, &keys);
+    exercise::build(case, slots, &contents);
     exercise::look_up(case, &[first, middle, last, middle + 1, last + 1]);
     exercise::take_out_and_put_back(case, &[first, middle, last]);
     exercise::steps(case, Place::new(middle, u64::MAX), 2);
     case.call(Call::insert(last + 1));
-    let room = 15 + 50 * slots;
+    let room = longest_image(slots);
     case.call(Call::Write { room });
-    exercise::read(case, slots, order, &keys);
-    let image = measured_image(order, &random_set(&keys, &mut case.random));
+    exercise::read(case, slots, &contents);
+    let image = image_of(&contents);
     let room = 10 * image.len();
     case.refused(Call::List { image, room }, 0);
 }

@@ -5,11 +5,11 @@ use super::{exercise, Section};
 use crate::call::Call;
 use crate::case::{Case, Tally};
 use crate::generator::spoil_image;
-use crate::keys::{keys_at, Chain};
-use crate::measures::random_set;
-use crate::tables::{image_of, measured_image};
+use crate::keys::{keys_at, ties, Chain};
+use crate::salts::contents_of;
+use crate::tables::{image_of, BLOCK, HEADER, MEASURED_NODE, NODE, SALTED_HEADER};
 use reference::measure::Measure;
-use reference::priority::TIES;
+use reference::Contents;
 
 pub const SECTION: Section = Section {
     name: "damaged-images",
@@ -17,10 +17,6 @@ pub const SECTION: Section = Section {
 };
 
 const SLOTS: usize = 8;
-const HEADER: usize = 15;
-const BLOCK: usize = 14;
-const NODE: usize = 30;
-const MEASURED_NODE: usize = 36;
 /// Where a header and a block record keep their number of blocks or keys.
 const BLOCKS_IN_HEADER: usize = 5;
 const KEYS_IN_BLOCK: usize = 12;
@@ -40,26 +36,27 @@ fn run(tally: &mut Tally) {
     }
 }
 
-/// Images with no key measured, with some and with all.
+/// Images with no key measured, with some and with all, without a salt and under one.
 fn small_images() -> Vec<Vec<u8>> {
-    let (a, b) = TIES[2];
+    let salt = 0x8000_0000_0000_0005;
+    let (a, b) = ties(salt)[2];
     let least = Measure::new(10_000, -5_000);
     let greatest = Measure::new(40_000, 5_000);
-    let every_second = |(i, key)| match i % 2 {
-        0 => (key, Measure::NONE),
-        _ => (key, Measure::new(26_500, -120)),
-    };
-    let chain = Chain::Right.keys(4).into_iter().enumerate();
-    vec![
-        image_of(3, &[]),
-        image_of(255, &[5]),
-        measured_image(255, &[(5, least)].into()),
-        measured_image(3, &[(1, Measure::NONE), (u64::MAX, greatest)].into()),
-        measured_image(4, &[(a, least), (b, greatest)].into()),
-        measured_image(3, &chain.map(every_second).collect()),
+    let middle = Measure::new(26_500, -120);
+    let mut chain = Contents::unmeasured(3, &Chain::Right.keys(salt, 4)).salted(salt);
+    let measures = chain.set.values_mut().skip(1).step_by(2);
+    measures.for_each(|measure| *measure = middle);
+    let all = [
+        Contents::unmeasured(3, &[]),
+        Contents::unmeasured(255, &[5]).salted(1),
+        contents_of(0, 255, [(5, least)]),
+        contents_of(u64::MAX, 3, [(1, Measure::NONE), (u64::MAX, greatest)]),
+        contents_of(salt, 4, [(a, least), (b, greatest)]),
+        chain,
         // Example E: four blocks at three levels, two of one leader.
-        image_of(3, &keys_at(&[6, 0, 1, 2, 3, 4, 5])),
-    ]
+        Contents::unmeasured(3, &keys_at(0, &[6, 0, 1, 2, 3, 4, 5])),
+    ];
+    all.iter().map(image_of).collect()
 }
 
 pub fn read_and_list(case: &mut Case, image: Vec<u8>) {
@@ -67,6 +64,13 @@ pub fn read_and_list(case: &mut Case, image: Vec<u8>) {
     let copy = image.clone();
     case.call(Call::Read { image: copy });
     case.call(Call::List { image, room });
+}
+
+/// The same where this refusal is due, 0 for none.
+pub fn read_or_not(case: &mut Case, image: Vec<u8>, refusal: u64) {
+    let (copy, room) = (image.clone(), 10 * image.len());
+    case.refused(Call::Read { image: copy }, refusal);
+    case.refused(Call::List { image, room }, refusal);
 }
 
 fn each_bit(case: &mut Case, image: &[u8], byte: usize) {
@@ -120,6 +124,7 @@ fn records(image: &[u8]) -> Vec<Vec<u8>> {
     while !rest.is_empty() {
         let length = match &rest[..2] {
             b"LH" => HEADER,
+            b"LS" => SALTED_HEADER,
             b"LB" => BLOCK,
             b"LM" => MEASURED_NODE,
             _ => NODE,
@@ -215,7 +220,8 @@ fn broken(case: &mut Case, records: &[Vec<u8>], start: usize, middle: usize) {
 fn large(case: &mut Case, number: usize, damages: usize) {
     let order = case.random.order();
     let keys = case.random.keys(number);
-    let image = measured_image(order, &random_set(&keys, &mut case.random));
+    let contents = case.contents(order, &keys);
+    let image = image_of(&contents);
     exercise::lend_rubbish(case, number);
     for _ in 0..damages {
         let mut damaged = image.clone();

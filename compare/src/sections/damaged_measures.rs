@@ -1,14 +1,19 @@
 //! The words of measures in tables and their bytes in images changed, exchanged and
-//! put under the other mark; and tables of the layout without measures.
+//! put under the other mark; and tables of the layouts before measures and before salts.
 
-use super::damaged_images::read_and_list;
+use super::damaged_images::{read_and_list, read_or_not};
 use super::{exercise, Section};
 use crate::call::Call;
 use crate::case::{Case, Tally};
-use crate::keys::keys_with_home;
 use crate::measures;
-use crate::tables::{image_of, length_word, measured_image, measured_table, set_in, sound_table};
+use crate::salts::{self, contents_of};
+use crate::tables::{
+    contents_in, header_length, image_of, length_word, longest_image, sound_table, BLOCK,
+    MEASURED_NODE, NODE,
+};
 use reference::measure::Measure;
+use reference::table::SALT_WORD;
+use reference::Contents;
 
 pub const SECTION: Section = Section {
     name: "damaged-measures",
@@ -41,10 +46,11 @@ fn run(tally: &mut Tally) {
         tally.case(|case| bytes_changed(case, &table));
         tally.case(|case| marks_exchanged(case, &table));
     }
-    tally.case(old_layout);
+    tally.case(old_layouts);
 }
 
-/// Tables of three keys and an empty slot: none measured, some, all.
+/// Tables of three keys and an empty slot: none measured, some, all; each under another
+/// salt.
 fn tables() -> Vec<Vec<u64>> {
     let measures = [
         [Measure::NONE, Measure::NONE, Measure::NONE],
@@ -52,9 +58,10 @@ fn tables() -> Vec<Vec<u64>> {
         [Measure::NONE, MIDDLE, Measure::NONE],
         [MIDDLE, GREATEST, LEAST],
     ];
-    let set = |[a, b, c]: [Measure; 3]| [(4, a), (5, b), (9, c)].into();
-    let table = |measures| measured_table(4, ORDER, &set(measures));
-    measures.into_iter().map(table).collect()
+    let table = |([a, b, c], salt): ([Measure; 3], u64)| {
+        sound_table(4, &contents_of(salt, ORDER, [(4, a), (5, b), (9, c)]))
+    };
+    measures.into_iter().zip(salts::ENDS).map(table).collect()
 }
 
 // ---------------------------------------------------------------------------
@@ -106,7 +113,7 @@ fn judged(case: &mut Case, table: &[u64], refusal: u64) {
     case.refused(Call::LookUp { key: 5 }, refusal);
     exercise::insert(case, 7, refusal);
     case.table = table.to_vec();
-    let room = 15 + 50 * 4;
+    let room = longest_image(4);
     case.refused(Call::Write { room }, refusal);
 }
 
@@ -120,29 +127,29 @@ fn ask(case: &mut Case, table: &[u64]) {
     case.call(Call::Delete { key: 4 });
 }
 
-/// Tables of six words for each slot: of no length that a table has, or not sound. But
-/// an empty one may be a blank table, and one whose only key has home 0 in four slots
-/// and in three is that key's table.
-fn old_layout(case: &mut Case) {
-    for (slots, keys, refusal) in [
-        (1, vec![5], 1),
-        (2, vec![4, 9], 1),
-        (3, vec![], 1),
-        (4, vec![], 0),
-        (4, vec![5], 7),
-        (4, keys_with_home(0, 12, 0, 1), 0),
-        (8, vec![4, 5, 9], 7),
-        (4096, vec![], 0),
-        (4096, vec![4, 5, 9], 7),
+/// Tables without the salt, and of six words for each slot: of no length that a table has.
+fn old_layouts(case: &mut Case) {
+    for (slots, keys) in [
+        (1, &[][..]),
+        (1, &[5]),
+        (2, &[4, 9]),
+        (4, &[]),
+        (8, &[4, 5, 9]),
+        (4096, &[]),
+        (4096, &[4, 5, 9]),
     ] {
-        let new = sound_table(slots, ORDER, &keys);
-        let mut old = new[..3].to_vec();
-        new[3..].chunks(8).for_each(|slot| old.extend(&slot[..6]));
-        judged(case, &old, refusal);
+        let mut before_salts = sound_table(slots, &Contents::unmeasured(ORDER, keys));
+        before_salts.remove(SALT_WORD);
+        let (header, records) = before_salts.split_at(SALT_WORD);
+        let mut before_measures = header.to_vec();
+        let fewer = records.chunks(8).flat_map(|record| &record[..6]);
+        before_measures.extend(fewer);
+        judged(case, &before_salts, 1);
+        judged(case, &before_measures, 1);
     }
-    // The image of unmeasured keys is what it was.
-    let image = image_of(ORDER, &[5]);
-    case.lend_sound(1, ORDER, &[]);
+    // The image of unmeasured keys without a salt is what it was.
+    let image = image_of(&Contents::unmeasured(ORDER, &[5]));
+    exercise::lend_keys(case, 1, ORDER, &[]);
     case.refused(Call::Read { image }, 0);
 }
 
@@ -151,10 +158,10 @@ fn old_layout(case: &mut Case) {
 
 /// Every pair of numbers in every record of a measured key.
 fn bytes_changed(case: &mut Case, table: &[u64]) {
-    let image = measured_image(ORDER, &set_in(table));
+    let image = image_of(&contents_in(table));
     exercise::lend_rubbish(case, 4);
     for place in measured_records(&image) {
-        let at = place + 30;
+        let at = place + NODE;
         for length in LENGTHS.iter().flat_map(|&length| u32::try_from(length)) {
             for correction in CORRECTIONS.iter().flat_map(|&word| u16::try_from(word)) {
                 let mut damaged = image.clone();
@@ -171,13 +178,13 @@ fn bytes_changed(case: &mut Case, table: &[u64]) {
 /// `LM` for `LN` with and without a measure, `LN` for `LM` with and without; the
 /// last is the image of another set.
 fn marks_exchanged(case: &mut Case, table: &[u64]) {
-    let image = measured_image(ORDER, &set_in(table));
+    let image = image_of(&contents_in(table));
     exercise::lend_rubbish(case, 4);
     for place in measured_records(&image) {
         let mut damaged = image.clone();
         damaged[place + 1] = b'N';
         read_or_not(case, damaged.clone(), 6);
-        damaged.drain(place + 30..place + 36);
+        damaged.drain(place + NODE..place + MEASURED_NODE);
         read_or_not(case, damaged, 0);
     }
     for place in records(&image, b"LN") {
@@ -186,7 +193,7 @@ fn marks_exchanged(case: &mut Case, table: &[u64]) {
         read_or_not(case, damaged.clone(), 6);
         for (measure, refusal) in [([0; 6], 6), ([0x10, 0x27, 0, 0, 0, 0], 0)] {
             let mut longer = damaged.clone();
-            longer.splice(place + 30..place + 30, measure);
+            longer.splice(place + NODE..place + NODE, measure);
             read_or_not(case, longer, refusal);
         }
     }
@@ -199,12 +206,6 @@ fn marks_exchanged(case: &mut Case, table: &[u64]) {
     }
 }
 
-fn read_or_not(case: &mut Case, image: Vec<u8>, refusal: u64) {
-    let (copy, room) = (image.clone(), 10 * image.len());
-    case.refused(Call::Read { image: copy }, refusal);
-    case.refused(Call::List { image, room }, refusal);
-}
-
 /// Where an image has the records of measured keys.
 pub fn measured_records(image: &[u8]) -> Vec<usize> {
     records(image, b"LM")
@@ -212,15 +213,15 @@ pub fn measured_records(image: &[u8]) -> Vec<usize> {
 
 /// Where an image has the records of that mark.
 fn records(image: &[u8], mark: &[u8]) -> Vec<usize> {
-    let (mut places, mut at) = (vec![], 15);
+    let (mut places, mut at) = (vec![], header_length(image));
     while at < image.len() {
         if image[at..].starts_with(mark) {
             places.push(at);
         }
         at += match image[at + 1] {
-            b'B' => 14,
-            b'M' => 36,
-            _ => 30,
+            b'B' => BLOCK,
+            b'M' => MEASURED_NODE,
+            _ => NODE,
         };
     }
     places

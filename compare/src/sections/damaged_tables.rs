@@ -5,16 +5,16 @@ use super::{exercise, Section};
 use crate::batches::random_batch;
 use crate::call::{Call, Place};
 use crate::case::{Case, Tally};
-use crate::keys::{keys_with_home, Chain};
+use crate::keys::{ties, Chain, Home};
 use crate::measures;
 use crate::random::Random;
+use crate::salts::contents_of;
 use crate::tables::{
-    is_measure_word, keys_in, measured_table, pages_length, slot_start, slots_of, sound_table,
+    is_measure_word, keys_in, longest_image, pages_length, slot_start, slots_of, sound_table,
 };
 use reference::measure::Measure;
-use reference::priority::TIES;
 use reference::table::SLOT_WORDS;
-use reference::Set;
+use reference::Contents;
 
 pub const SECTION: Section = Section {
     name: "damaged-tables",
@@ -41,35 +41,35 @@ fn run(tally: &mut Tally) {
     }
 }
 
-/// Tables with no key measured, with some and with all.
+/// Tables with no key measured, with some and with all, without a salt and under one.
 fn small_tables() -> Vec<Vec<u64>> {
-    let (a, b) = TIES[1];
+    let (none, middle) = (Measure::NONE, Measure::new(26_500, 0));
     let least = Measure::new(10_000, -5_000);
     let greatest = Measure::new(40_000, 5_000);
-    vec![
-        sound_table(1, 3, &[]),
-        sound_table(1, 255, &[9]),
-        measured_table(2, 3, &[(1, least), (u64::MAX, Measure::NONE)].into()),
-        measured_table(2, 5, &[(a, greatest), (b, Measure::new(26_500, 0))].into()),
-        sound_table(3, 4, &keys_with_home(0, 3, 2, 2)),
-        measured_table(
-            3,
-            3,
-            &[(1, Measure::NONE), (2, greatest), (3, least)].into(),
-        ),
-        sound_table(7, 3, &Chain::Right.keys(5)),
-        measured_table(7, 3, &first_seven(1)),
-        measured_table(8, 3, &first_seven(2)),
-    ]
+    let (a, b) = ties(u64::MAX)[1];
+    let one_home = Home::new(3, 2).keys(77, 0, 2);
+    let chain = Chain::Right.keys(1 << 63, 5);
+    let all = [
+        (1, Contents::unmeasured(3, &[])),
+        (1, Contents::unmeasured(255, &[9]).salted(9)),
+        (2, contents_of(0, 3, [(1, least), (u64::MAX, none)])),
+        (2, contents_of(u64::MAX, 5, [(a, greatest), (b, middle)])),
+        (3, Contents::unmeasured(4, &one_home).salted(77)),
+        (3, contents_of(1, 3, [(1, none), (2, greatest), (3, least)])),
+        (7, Contents::unmeasured(3, &chain).salted(1 << 63)),
+        (7, contents_of(0, 3, first_seven(1))),
+        (8, contents_of(0x5EED_5EED, 3, first_seven(2))),
+    ];
+    let table = |(slots, contents): &(usize, Contents)| sound_table(*slots, contents);
+    all.iter().map(table).collect()
 }
 
 /// Keys 1 to 7, each so many-th measured.
-fn first_seven(each: u64) -> Set {
-    let measure = |key: u64| match key % each {
-        0 => Measure::new(20_000 + key, 3 - key as i32),
-        _ => Measure::NONE,
-    };
-    (1..=7).map(|key| (key, measure(key))).collect()
+fn first_seven(each: u64) -> [(u64, Measure); 7] {
+    [1, 2, 3, 4, 5, 6, 7].map(|key| match key % each {
+        0 => (key, Measure::new(20_000 + key, 3 - key as i32)),
+        _ => (key, Measure::NONE),
+    })
 }
 
 /// One word changed in many ways. Small tables get each of its bits changed.
@@ -195,7 +195,7 @@ fn calls(keys: &[u64], random: &mut Random) -> [Call; 8] {
             place: Place::new(next, u64::MAX),
         },
         Call::Write {
-            room: 15 + 50 * (keys.len() + 1),
+            room: longest_image(keys.len() + 1),
         },
         Call::Pages {
             room: pages_length(keys.len() + 1),
@@ -207,7 +207,8 @@ fn calls(keys: &[u64], random: &mut Random) -> [Call; 8] {
 fn large(case: &mut Case, slots: usize, number: usize, damages: usize) {
     let order = case.random.order();
     let keys = case.random.keys(number);
-    exercise::build(case, slots, order, &keys);
+    let contents = case.contents(order, &keys);
+    exercise::build(case, slots, &contents);
     let table = case.table.clone();
     for _ in 0..damages {
         let word = case.random.below(table.len());

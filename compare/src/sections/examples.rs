@@ -1,14 +1,17 @@
 //! Document 01's examples, with document 02's fill. A and B are as written there. The
 //! priorities of C to H are written in the document, and the archive has only the real
-//! one; so real keys are taken that outrank each other, or have the homes, as there.
+//! one; so real keys are taken that outrank each other, or have the homes, as there,
+//! without a salt and under each of some.
 
 use super::{exercise, Section};
 use crate::call::Call;
 use crate::case::{Case, Tally};
 use crate::fill::missed_fill;
-use crate::keys::{keys_at, keys_with_home, outranks};
+use crate::keys::{keys_at, outranks, Home};
 use crate::outcome::Outcome;
-use crate::tables::{image_of, listing_length, slot_start};
+use crate::salts;
+use crate::tables::{header_length, image_of, listing_length, slot_start, BLOCK, NODE};
+use reference::Contents;
 
 pub const SECTION: Section = Section {
     name: "examples",
@@ -108,15 +111,17 @@ const EXAMPLES: [Example; 7] = [
 const IMAGE_OF_B: &[u8] = b"LH\x03\x01\0\x01\0\x05\0\0\0\0\0\0\0\
     LB\x05\0\0\0\0\0\0\0\0\0\x01\0\
     LN\x05\0\0\0\0\0\0\0\0\0\0\0\0\0\0\0\0\0\0\0\0\0\0\0\0\0\x01\0";
-const LISTING_OF_B: &str = "order 3 keys 1 blocks 1 fill 20 root 0000000000000005\n\
+pub const LISTING_OF_B: &str = "order 3 keys 1 blocks 1 fill 20 root 0000000000000005\n\
     block 0000000000000005 level 0 keys 1\n\
     key 0000000000000005 rank 0 count 1\n";
 
 fn run(tally: &mut Tally) {
-    for example in EXAMPLES {
-        tally.case(|case| try_example(case, &example));
+    for salt in salts::ENDS {
+        for example in EXAMPLES {
+            tally.case(|case| try_example(case, salt, &example));
+        }
+        tally.case(|case| example_h(case, salt));
     }
-    tally.case(example_h);
     tally.case(written_bytes);
     tally.case(lengths_and_orders);
 }
@@ -128,7 +133,7 @@ struct Names {
 }
 
 impl Names {
-    fn new(falling: &[u64]) -> Names {
+    fn new(salt: u64, falling: &[u64]) -> Names {
         let mut document = falling.to_vec();
         document.sort_unstable();
         let place = |key| falling.iter().position(|k| k == key).expect("one of them");
@@ -136,7 +141,7 @@ impl Names {
         // B is told with its own key.
         let real = match falling {
             [key] => vec![*key],
-            _ => keys_at(&places),
+            _ => keys_at(salt, &places),
         };
         Names { document, real }
     }
@@ -156,11 +161,13 @@ impl Names {
     }
 }
 
-fn try_example(case: &mut Case, example: &Example) {
-    let names = Names::new(example.falling);
+fn try_example(case: &mut Case, salt: u64, example: &Example) {
+    let names = Names::new(salt, example.falling);
     let slots = names.real.len() + 2;
-    exercise::everything(case, slots, ORDER, &names.real);
-    case.lend_sound(slots, ORDER, &names.real);
+    let measured = case.contents_under(salt, ORDER, &names.real);
+    exercise::everything(case, slots, &measured);
+    let contents = Contents::unmeasured(ORDER, &names.real).salted(salt);
+    case.lend(slots, &contents);
     told(case, "rank", &names.real, example.ranks);
     told(case, "count", &names.real, example.counts);
     told(
@@ -172,8 +179,8 @@ fn try_example(case: &mut Case, example: &Example) {
     for &(key, blocks) in example.met {
         told(case, "blocks", &[names.real(key)], &[blocks]);
     }
-    blocks_told(case, &names, example.blocks);
-    fill_told(case, &names.real, example.fill);
+    blocks_told(case, &names, &contents, example.blocks);
+    fill_told(case, &contents, example.fill);
 }
 
 /// Each look-up gives the number that is told of its key, if one is.
@@ -192,39 +199,38 @@ fn number_of(outcome: &Outcome, field: &str) -> u64 {
 }
 
 /// The written image has just the blocks that are told.
-fn blocks_told(case: &mut Case, names: &Names, blocks: &[Block]) {
+fn blocks_told(case: &mut Case, names: &Names, contents: &Contents, blocks: &[Block]) {
     let block = |&(leader, level, keys): &Block| {
         let keys = names.real_list(keys);
         (names.real(leader), level, keys)
     };
     let due: Vec<_> = blocks.iter().map(block).collect();
-    let room = image_of(ORDER, &names.real).len();
+    let room = image_of(contents).len();
     case.call_and_check(Call::Write { room }, |outcome| {
         let given = blocks_in(&outcome.bytes);
         (given != due).then(|| format!("blocks {given:?}, not {due:?}"))
     });
 }
 
-/// The blocks of an image: leader, level, keys.
+/// The blocks of an image, none of whose keys is measured: leader, level, keys.
 fn blocks_in(image: &[u8]) -> Vec<(u64, u64, Vec<u64>)> {
     let eight = |bytes: &[u8]| u64::from_le_bytes(bytes[..8].try_into().expect("eight"));
     let mut blocks = vec![];
-    let mut rest = &image[15..];
+    let mut rest = &image[header_length(image)..];
     while !rest.is_empty() {
         let level = u64::from(rest[10]) + 256 * u64::from(rest[11]);
         let number = usize::from(rest[12]) + 256 * usize::from(rest[13]);
-        let (nodes, after) = rest[14..].split_at(30 * number);
-        let keys = nodes.chunks(30).map(|node| eight(&node[2..])).collect();
+        let (nodes, after) = rest[BLOCK..].split_at(NODE * number);
+        let keys = nodes.chunks(NODE).map(|node| eight(&node[2..])).collect();
         blocks.push((eight(&rest[2..]), level, keys));
         rest = after;
     }
     blocks
 }
 
-/// The listing of the rising keys shows the fill.
-fn fill_told(case: &mut Case, keys: &[u64], fill: u64) {
-    let image = image_of(ORDER, keys);
-    let room = listing_length(ORDER, keys);
+/// The listing shows the fill.
+fn fill_told(case: &mut Case, contents: &Contents, fill: u64) {
+    let (image, room) = (image_of(contents), listing_length(contents));
     case.call_and_check(Call::List { image, room }, |outcome| {
         missed_fill(outcome, fill)
     });
@@ -232,16 +238,17 @@ fn fill_told(case: &mut Case, keys: &[u64], fill: u64) {
 
 /// "M = 3, two keys with home 2: slots 2 and 0, the outranking one in 2; delete
 /// that one and the other moves to slot 2."
-fn example_h(case: &mut Case) {
-    let mut pair = keys_with_home(0, 3, 2, 2);
-    if !outranks(pair[0], pair[1]) {
+fn example_h(case: &mut Case, salt: u64) {
+    let mut pair = Home::new(3, 2).keys(salt, 0, 2);
+    let both = Contents::unmeasured(ORDER, &pair).salted(salt);
+    if !outranks(salt, pair[0], pair[1]) {
         pair.reverse();
     }
     let (upper, lower) = (pair[0], pair[1]);
-    case.lend_sound(3, ORDER, &[]);
+    case.lend(3, &Contents::unmeasured(ORDER, &[]).salted(salt));
     slots_after(case, Call::insert(lower), [0, 0, lower]);
     slots_after(case, Call::insert(upper), [lower, 0, upper]);
-    fill_told(case, &[lower.min(upper), lower.max(upper)], 40);
+    fill_told(case, &both, 40);
     slots_after(case, Call::Delete { key: upper }, [0, 0, lower]);
 }
 
@@ -255,36 +262,40 @@ fn slots_after(case: &mut Case, call: Call, due: [u64; 3]) {
 
 /// The bytes of A's and B's images, and B's listing.
 fn written_bytes(case: &mut Case) {
-    case.lend_sound(1, ORDER, &[]);
+    case.lend(1, &Contents::unmeasured(ORDER, &[]));
     bytes_are(
         case,
         Call::Write { room: 15 },
         b"LH\x03\0\0\0\0\0\0\0\0\0\0\0\0",
     );
-    case.lend_sound(1, ORDER, &[5]);
+    case.lend(1, &Contents::unmeasured(ORDER, &[5]));
     bytes_are(case, Call::Write { room: 59 }, IMAGE_OF_B);
     let image = IMAGE_OF_B.to_vec();
     let room = LISTING_OF_B.len();
     bytes_are(case, Call::List { image, room }, LISTING_OF_B.as_bytes());
 }
 
-fn bytes_are(case: &mut Case, call: Call, due: &[u8]) {
+/// The call leaves these output bytes.
+pub fn bytes_are(case: &mut Case, call: Call, due: &[u8]) {
     case.call_and_check(call, |outcome| {
         let given = &outcome.bytes;
         (given != due).then(|| format!("bytes {given:?}, not {due:?}"))
     });
 }
 
-/// "the run takes 11 and 32,771, not 3, 10, 12 or 32,779" (document 02); "orders 3 and
-/// 255 accepted, 2 and 256 refused."
+/// "the run takes 12 and 32,772 words, not 4, 11, 13 or 32,780" (document 02); "orders 3
+/// and 255 accepted, 2 and 256 refused."
 fn lengths_and_orders(case: &mut Case) {
-    let lengths = [(11, 0), (32_771, 0), (3, 1), (10, 1), (12, 1), (32_779, 1)];
-    for (length, refusal) in lengths {
-        case.table = vec![7; length];
-        case.refused(Call::SetUp { order: ORDER }, refusal);
-    }
-    case.table = vec![7; 11];
-    for (order, refusal) in [(3, 0), (255, 0), (2, 2), (256, 2)] {
-        case.refused(Call::SetUp { order }, refusal);
+    let lengths = [(12, 0), (32_772, 0), (4, 1), (11, 1), (13, 1), (32_780, 1)];
+    for salt in salts::ENDS {
+        for (length, refusal) in lengths {
+            let order = ORDER;
+            case.table = vec![7; length];
+            case.refused(Call::SetUp { order, salt }, refusal);
+        }
+        case.table = vec![7; 12];
+        for (order, refusal) in [(3, 0), (255, 0), (2, 2), (256, 2)] {
+            case.refused(Call::SetUp { order, salt }, refusal);
+        }
     }
 }

@@ -2,12 +2,9 @@
 
 use crate::call::{Call, Place};
 use crate::case::Case;
-use crate::list::List;
-use crate::measures::{self, random_set};
-use crate::tables::{
-    image_length, keys_in, listing_length, measured_image, pages_length, table_length,
-};
-use reference::Set;
+use crate::measures;
+use crate::tables::{image_length, image_of, keys_in, listing_length, pages_length, table_length};
+use reference::Contents;
 
 /// Lends words that are no table's.
 pub fn lend_rubbish(case: &mut Case, slots: usize) {
@@ -15,19 +12,25 @@ pub fn lend_rubbish(case: &mut Case, slots: usize) {
     case.table = words.collect();
 }
 
-/// Lends the sound table of an order and the keys, measured or not.
+/// Lends the sound table of an order and the keys, under some salt and measured or not.
 pub fn lend_keys(case: &mut Case, slots: usize, order: u64, keys: &[u64]) {
-    let set = random_set(keys, &mut case.random);
-    case.lend_measured(slots, order, &set);
+    let contents = case.contents(order, keys);
+    case.lend(slots, &contents);
 }
 
-/// Builds over rubbish, the keys measured or not; with more keys than slots that is
-/// refused.
-pub fn build(case: &mut Case, slots: usize, order: u64, keys: &[u64]) {
+/// What is said where there are more keys than slots.
+fn refusal_of(slots: usize, contents: &Contents) -> u64 {
+    if contents.set.len() > slots {
+        10
+    } else {
+        0
+    }
+}
+
+/// Builds over rubbish; with more keys than slots that is refused.
+pub fn build(case: &mut Case, slots: usize, contents: &Contents) {
     lend_rubbish(case, slots);
-    let list = List::of(&random_set(keys, &mut case.random));
-    let refusal = if keys.len() > slots { 10 } else { 0 };
-    case.refused(Call::Build { order, list }, refusal);
+    case.refused(Call::build(contents), refusal_of(slots, contents));
 }
 
 /// Writes the table's image into an output that is just long enough, too short
@@ -47,29 +50,18 @@ pub fn pages(case: &mut Case) {
     case.refused(Call::Pages { room: length + 7 }, 0);
 }
 
-/// Reads the image of an order and the keys, measured or not, over rubbish; the table
-/// that was lent before is lent again afterwards.
-pub fn read(case: &mut Case, slots: usize, order: u64, keys: &[u64]) {
+/// Reads the image over rubbish; the table that was lent before is lent again afterwards.
+pub fn read(case: &mut Case, slots: usize, contents: &Contents) {
     let before = case.table.clone();
     lend_rubbish(case, slots);
-    let image = measured_image(order, &random_set(keys, &mut case.random));
-    let refusal = if keys.len() > slots { 10 } else { 0 };
-    case.refused(Call::Read { image }, refusal);
+    let image = image_of(contents);
+    case.refused(Call::Read { image }, refusal_of(slots, contents));
     case.table = before;
 }
 
-/// Lists the image of an order and the keys, measured or not, into outputs of three
-/// lengths.
-pub fn list(case: &mut Case, order: u64, keys: &[u64]) {
-    let set = random_set(keys, &mut case.random);
-    list_set(case, order, &set);
-}
-
-/// The same of a set.
-pub fn list_set(case: &mut Case, order: u64, set: &Set) {
-    let image = measured_image(order, set);
-    let keys: Vec<u64> = set.keys().copied().collect();
-    let length = listing_length(order, &keys);
+/// Lists the image into outputs of three lengths.
+pub fn list(case: &mut Case, contents: &Contents) {
+    let (image, length) = (image_of(contents), listing_length(contents));
     for (room, refusal) in [(length, 0), (length - 1, 11), (length + 5, 0)] {
         let image = image.clone();
         case.refused(Call::List { image, room }, refusal);
@@ -124,15 +116,16 @@ pub fn insert(case: &mut Case, key: u64, refusal: u64) {
     case.refused(Call::Insert { key, measure }, refusal);
 }
 
-/// All of the above but the last on a table built from the keys.
-pub fn everything(case: &mut Case, slots: usize, order: u64, keys: &[u64]) {
-    build(case, slots, order, keys);
-    if keys.len() <= slots {
+/// All of the above but the last on a table built from the set.
+pub fn everything(case: &mut Case, slots: usize, contents: &Contents) {
+    build(case, slots, contents);
+    let number = contents.set.len();
+    if number <= slots {
         write(case);
         pages(case);
         whole_range(case);
-        steps(case, Place::WHOLE, keys.len() + 2);
+        steps(case, Place::WHOLE, number + 2);
     }
-    read(case, slots, order, keys);
-    list(case, order, keys);
+    read(case, slots, contents);
+    list(case, contents);
 }

@@ -32,7 +32,8 @@ fn at_the_ends(case: &mut Case, slots: usize, ends: &[u64], others: usize) {
     let mut keys: Vec<u64> = ends.iter().copied().chain(between).collect();
     keys.sort_unstable();
     let order = case.random.order();
-    exercise::everything(case, slots, order, &keys);
+    let contents = case.contents(order, &keys);
+    exercise::everything(case, slots, &contents);
     exercise::look_up(case, &ENDS);
     for low in BOUNDS {
         for high in BOUNDS {
@@ -47,7 +48,8 @@ fn at_the_ends(case: &mut Case, slots: usize, ends: &[u64], others: usize) {
 /// The greatest key comes and goes under a place that is at it.
 fn both_ends(case: &mut Case, slots: usize) {
     let order = case.random.order();
-    exercise::build(case, slots, order, &[1, u64::MAX]);
+    let contents = case.contents(order, &[1, u64::MAX]);
+    exercise::build(case, slots, &contents);
     let place = Place::new(u64::MAX, u64::MAX);
     exercise::steps(case, Place::WHOLE, 5);
     exercise::steps(case, place, 3);

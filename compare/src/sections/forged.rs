@@ -2,10 +2,10 @@
 
 use super::{damaged_images, damaged_tables, Section};
 use crate::case::{Case, Tally};
-use crate::keys::parts;
-use crate::measures::random_set;
-use crate::tables::{measured_image, measured_table, slots_of};
-use reference::priority::{priority, Priority, TIES};
+use crate::keys::{parts, ties};
+use crate::salts;
+use crate::tables::{image_of, slots_of, sound_table};
+use reference::priority::{priority, Priority};
 use reference::{image, table, Contents};
 
 pub const SECTION: Section = Section {
@@ -14,11 +14,12 @@ pub const SECTION: Section = Section {
 };
 
 fn run(tally: &mut Tally) {
-    for pair in TIES {
+    for (place, salt) in (0..8).zip(salts::ENDS.into_iter().cycle()) {
+        let pair = ties(salt)[place];
         for keys in about(pair) {
             for slots in [keys.len(), keys.len() + 2] {
-                tally.case(|case| a_key_twice(case, slots, &keys, pair));
-                tally.case(|case| greater_first(case, slots, &keys, pair));
+                tally.case(|case| a_key_twice(case, slots, salt, &keys, pair));
+                tally.case(|case| greater_first(case, slots, salt, &keys, pair));
             }
         }
     }
@@ -50,23 +51,28 @@ fn about((a, b): (u64, u64)) -> Vec<Vec<u64>> {
 fn try_both(case: &mut Case, keys: &[u64], table: Vec<u64>, image: Vec<u8>) {
     let slots = slots_of(&table).expect("a table");
     damaged_tables::each_call(case, keys, &table);
-    case.lend_sound(slots, 3, &[]);
+    lend_blank(case, slots);
     damaged_images::read_and_list(case, image);
+}
+
+fn lend_blank(case: &mut Case, slots: usize) {
+    let blank = case.contents(3, &[]);
+    case.lend(slots, &blank);
 }
 
 /// One key stands in both slots and both records of a pair, which its priority
 /// would allow.
-fn a_key_twice(case: &mut Case, slots: usize, keys: &[u64], (a, b): (u64, u64)) {
+fn a_key_twice(case: &mut Case, slots: usize, salt: u64, keys: &[u64], (a, b): (u64, u64)) {
     let order = case.random.order();
-    let set = random_set(keys, &mut case.random);
+    let contents = case.contents_under(salt, order, keys);
     for (gone, twice) in [(a, b), (b, a)] {
-        let mut table = measured_table(slots, order, &set);
+        let mut table = sound_table(slots, &contents);
         for word in &mut table {
             if *word == gone {
                 *word = twice;
             }
         }
-        let mut image = measured_image(order, &set);
+        let mut image = image_of(&contents);
         replace(&mut image, &gone.to_le_bytes(), &twice.to_le_bytes());
         try_both(case, keys, table, image);
     }
@@ -81,44 +87,45 @@ fn replace(bytes: &mut [u8], old: &[u8], new: &[u8]) {
 }
 
 /// Of two keys of equal priority the greater outranks the lesser.
-fn greater_first(case: &mut Case, slots: usize, keys: &[u64], (_, b): (u64, u64)) {
-    let raised = |key| priority(key) + u64::from(key == b);
-    with_priority(case, slots, keys, &raised);
+fn greater_first(case: &mut Case, slots: usize, salt: u64, keys: &[u64], (_, b): (u64, u64)) {
+    let raised = |salted| priority(salted) + u64::from(salted ^ salt == b);
+    let order = case.random.order();
+    let contents = case.contents_under(salt, order, keys);
+    with_priority(case, slots, &contents, &raised);
 }
 
 /// The bytes of a key are taken from the highest down.
 fn other_priority(case: &mut Case, slots: usize, keys: &[u64]) {
     let swapped = |key: u64| priority(key.swap_bytes());
-    with_priority(case, slots, keys, &swapped);
+    let order = case.random.order();
+    let contents = case.contents(order, keys);
+    with_priority(case, slots, &contents, &swapped);
 }
 
-fn with_priority(case: &mut Case, slots: usize, keys: &[u64], priority: Priority) {
-    let contents = Contents {
-        order: case.random.order(),
-        set: random_set(keys, &mut case.random),
-    };
-    let table = table::words(priority, &contents, slots);
-    let image = image::image(priority, &contents);
-    try_both(case, keys, table, image);
+fn with_priority(case: &mut Case, slots: usize, contents: &Contents, priority: Priority) {
+    let table = table::words(priority, contents, slots);
+    let image = image::image(priority, contents);
+    try_both(case, &contents.keys(), table, image);
 }
 
 /// The table and the image for a number that is no order.
 fn no_order(case: &mut Case, keys: &[u64]) {
-    let set = random_set(keys, &mut case.random);
     for order in [2, 256, 257, 1000] {
-        let table = measured_table(7, order, &set);
-        damaged_tables::each_call(case, keys, &table);
+        let contents = case.contents(order, keys);
+        damaged_tables::each_call(case, keys, &sound_table(7, &contents));
     }
     // The others have no byte.
-    case.lend_sound(7, 3, &[]);
-    damaged_images::read_and_list(case, measured_image(2, &set));
+    lend_blank(case, 7);
+    let contents = case.contents(2, keys);
+    damaged_images::read_and_list(case, image_of(&contents));
 }
 
 /// The image of a set that has the key zero.
 fn key_zero(case: &mut Case, keys: &[u64]) {
-    let with_zero = random_set(&[&[0], keys].concat(), &mut case.random);
-    case.lend_sound(7, 3, &[]);
+    let with_zero = [&[0], keys].concat();
+    lend_blank(case, 7);
     for order in [3, 4, 255] {
-        damaged_images::read_and_list(case, measured_image(order, &with_zero));
+        let contents = case.contents(order, &with_zero);
+        damaged_images::read_and_list(case, image_of(&contents));
     }
 }

@@ -3,8 +3,7 @@
 use super::{exercise, Section, SLOTS};
 use crate::call::Call;
 use crate::case::{Case, Tally};
-use crate::measures::random_set;
-use crate::tables::measured_image;
+use crate::tables::image_of;
 use reference::MOST_SLOTS;
 
 pub const SECTION: Section = Section { name: "full", run };
@@ -28,7 +27,8 @@ fn filled(case: &mut Case, slots: usize) {
     let mut keys = case.random.keys(slots + 1);
     let fresh = keys.remove(case.random.below(slots + 1));
     let held = case.random.pick(&keys);
-    exercise::build(case, slots, order, &keys);
+    let contents = case.contents(order, &keys);
+    exercise::build(case, slots, &contents);
     exercise::write(case);
     exercise::pages(case);
     exercise::whole_range(case);
@@ -39,17 +39,19 @@ fn filled(case: &mut Case, slots: usize) {
     case.refused(Call::Delete { key: held }, 0);
     exercise::insert(case, fresh, 0);
     exercise::insert(case, held, 10);
-    exercise::read(case, slots, order, &keys);
-    exercise::list(case, order, &keys);
+    exercise::read(case, slots, &contents);
+    exercise::list(case, &contents);
 }
 
 /// An image of 4,097 keys is none; of fewer it has only too many keys.
 fn one_too_many(case: &mut Case, slots: usize) {
     let order = case.random.order();
     let keys = case.random.keys(slots + 1);
-    exercise::build(case, slots, order, &keys);
-    exercise::build(case, slots, order, &keys[..slots]);
-    let image = measured_image(order, &random_set(&keys, &mut case.random));
+    let contents = case.contents(order, &keys);
+    exercise::build(case, slots, &contents);
+    let fewer = case.contents(order, &keys[..slots]);
+    exercise::build(case, slots, &fewer);
+    let image = image_of(&contents);
     let read_refusal = if slots < MOST_SLOTS { 10 } else { 6 };
     let list_refusal = if slots < MOST_SLOTS { 0 } else { 6 };
     let room = 10 * image.len();

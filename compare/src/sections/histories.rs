@@ -5,8 +5,6 @@ use super::{exercise, Section, SLOTS};
 use crate::call::Call;
 use crate::case::{Case, Tally};
 use crate::generator::{load, Generator};
-use crate::list::List;
-use crate::measures::random_set;
 
 pub const SECTION: Section = Section {
     name: "histories",
@@ -40,14 +38,17 @@ fn history(case: &mut Case, slots: usize, calls: usize) {
     let order = case.random.order();
     let first = match case.random.below(4) {
         0 => load(order, &mut case.random),
-        _ => Call::SetUp { order },
+        _ => Call::SetUp {
+            order,
+            salt: case.salt(),
+        },
     };
     case.refused(first, 0);
     if slots > 3 {
         let number = case.random.fill(slots);
         let keys = case.random.keys(number);
-        let list = List::of(&random_set(&keys, &mut case.random));
-        case.refused(Call::Build { order, list }, 0);
+        let contents = case.contents(order, &keys);
+        case.refused(Call::build(&contents), 0);
     }
     let mut generator = Generator::new(slots);
     for _ in 0..calls {

@@ -6,9 +6,10 @@ use crate::archive::Empty;
 use crate::call::{Call, Place};
 use crate::case::{Case, Tally};
 use crate::list::List;
-use crate::tables::{image_of, measured_image, slots_of, table_length};
+use crate::salts::contents_of;
+use crate::tables::{image_of, slots_of, table_length};
 use reference::measure::Measure;
-use reference::MOST_SLOTS;
+use reference::{Contents, MOST_SLOTS};
 
 pub const SECTION: Section = Section {
     name: "lengths",
@@ -29,7 +30,7 @@ fn run(tally: &mut Tally) {
 
 /// The words are those of a blank table, as far as they go.
 fn each_call(case: &mut Case, length: usize) {
-    let mut blank = vec![3, 0, 0];
+    let mut blank = vec![3, 0, 0, case.salt()];
     blank.resize(length, 0);
     let refusal = if slots_of(&blank).is_some() { 0 } else { 1 };
     for call in sensible_calls() {
@@ -43,8 +44,11 @@ fn each_call(case: &mut Case, length: usize) {
 /// One of each kind that a blank table of any length accepts.
 fn sensible_calls() -> [Call; 11] {
     [
-        Call::SetUp { order: 255 },
-        Call::build(4, &[7]),
+        Call::SetUp {
+            order: 255,
+            salt: 7,
+        },
+        Call::build(&Contents::unmeasured(4, &[7]).salted(u64::MAX)),
         Call::Load {
             order: 5,
             seed: 11,
@@ -66,10 +70,10 @@ fn sensible_calls() -> [Call; 11] {
         Call::Step {
             place: Place::WHOLE,
         },
-        Call::Write { room: 20 },
+        Call::Write { room: 30 },
         Call::Pages { room: 20 },
         Call::Read {
-            image: measured_image(9, &[(3, Measure::new(40_000, 5_000))].into()),
+            image: image_of(&contents_of(5, 9, [(3, Measure::new(40_000, 5_000))])),
         },
     ]
 }
@@ -85,17 +89,17 @@ fn nothing(case: &mut Case, empty: Empty) {
     case.refused(Call::LookUpBatch { keys: vec![] }, 1);
     nothing_for_a_table(case, &[]);
     nothing_for_a_table(case, &[5, 6]);
-    case.refused(Call::build(3, &[]), 0);
+    case.refused(Call::build(&Contents::unmeasured(3, &[])), 0);
     nothing_for_a_list(case);
     let image = vec![];
     case.refused(Call::List { image, room: 0 }, 6);
-    let image = image_of(3, &[]);
+    let image = image_of(&Contents::unmeasured(3, &[]));
     case.refused(Call::List { image, room: 0 }, 11);
 }
 
 /// One list or two with nothing in them, where another has something.
 fn nothing_for_a_list(case: &mut Case) {
-    let order = 3;
+    let (order, salt) = (3, 5);
     for bits in 1..7 {
         let number = |bit: usize| bits >> bit & 1;
         let list = List {
@@ -103,13 +107,13 @@ fn nothing_for_a_list(case: &mut Case) {
             lengths: vec![0; number(1)],
             corrections: vec![0; number(2)],
         };
-        case.refused(Call::Build { order, list }, 12);
+        case.refused(Call::Build { order, salt, list }, 12);
     }
 }
 
 /// Batches, ranges, images and pages that are empty or have nowhere to go.
 fn nothing_for_a_table(case: &mut Case, keys: &[u64]) {
-    case.lend_sound(2, 3, keys);
+    case.lend(2, &Contents::unmeasured(3, keys));
     let nowhere = if keys.is_empty() { 0 } else { 11 };
     for (low, high, refusal) in [(0, u64::MAX, nowhere), (7, 9, 0)] {
         let room = 0;

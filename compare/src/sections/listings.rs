@@ -7,9 +7,9 @@ use crate::call::Call;
 use crate::case::{Case, Tally};
 use crate::fill::missed_fill;
 use crate::keys::{keys_at, Chain};
-use crate::measures::random_set;
-use crate::tables::{listing_length, measured_image};
+use crate::tables::{image_of, listing_length};
 use reference::depths::{comb, full};
+use reference::Contents;
 
 pub const SECTION: Section = Section {
     name: "listings",
@@ -24,7 +24,8 @@ fn run(tally: &mut Tally) {
         for order in ORDERS {
             tally.case(|case| {
                 let keys = case.random.keys(number);
-                exercise::list(case, order, &keys);
+                let contents = case.contents(order, &keys);
+                exercise::list(case, &contents);
             });
         }
     }
@@ -34,27 +35,39 @@ fn run(tally: &mut Tally) {
         tally.case(|case| one_block(case, order, left, right));
     }
     for (order, levels) in FULL {
-        tally.case(|case| each_fill(case, &full_libraries(order, levels)));
+        tally.case(|case| {
+            let salt = case.salt();
+            each_fill(case, salt, &full_libraries(salt, order, levels));
+        });
     }
-    tally.case(|case| each_fill(case, &COMBS.map(comb_library)));
+    for comb in COMBS {
+        tally.case(|case| {
+            let salt = case.salt();
+            each_fill(case, salt, &[comb_library(salt, comb)]);
+        });
+    }
 }
 
 /// A chain of order 3 has half as many blocks and levels as keys; the first
 /// keys of a chain are one too.
 fn many_blocks(case: &mut Case) {
-    let longest = Chain::Right.keys(2 * 1001 + 1);
+    let salt = case.salt();
+    let longest = Chain::Right.keys(salt, 2 * 1001 + 1);
     for blocks in EDGES {
         for number in 2 * blocks - 1..=2 * blocks + 1 {
-            list_once(case, 3, &longest[..number]);
+            let contents = case.contents_under(salt, 3, &longest[..number]);
+            case.refused(listing_of(&contents), 0);
         }
     }
 }
 
 /// In a chain the counts in a block go up to the order less one.
 fn counts_and_blocks_of_a_chain(case: &mut Case) {
-    let keys = Chain::Left.keys(210);
+    let salt = case.salt();
+    let keys = Chain::Left.keys(salt, 210);
     for order in [9, 10, 11, 99, 100, 101, 102, 200, 255] {
-        list_once(case, order, &keys);
+        let contents = case.contents_under(salt, order, &keys);
+        case.refused(listing_of(&contents), 0);
     }
 }
 
@@ -64,18 +77,14 @@ fn one_block(case: &mut Case, order: u64, left: usize, right: usize) {
     let mut places: Vec<usize> = (1..=left).collect();
     places.push(0);
     places.extend(left + 1..=left + right);
-    exercise::list(case, order, &keys_at(&places));
+    let salt = case.salt();
+    let contents = case.contents_under(salt, order, &keys_at(salt, &places));
+    exercise::list(case, &contents);
 }
 
-fn list_once(case: &mut Case, order: u64, keys: &[u64]) {
-    let call = listing_of(case, order, keys);
-    case.refused(call, 0);
-}
-
-/// The listing of the keys, measured or not, into an output that is just long enough.
-fn listing_of(case: &mut Case, order: u64, keys: &[u64]) -> Call {
-    let image = measured_image(order, &random_set(keys, &mut case.random));
-    let room = listing_length(order, keys);
+/// The listing into an output that is just long enough.
+fn listing_of(contents: &Contents) -> Call {
+    let (image, room) = (image_of(contents), listing_length(contents));
     Call::List { image, room }
 }
 
@@ -89,9 +98,11 @@ struct Library {
     fill: u64,
 }
 
-fn each_fill(case: &mut Case, libraries: &[Library]) {
+/// The libraries under the salt that their keys were searched out for.
+fn each_fill(case: &mut Case, salt: u64, libraries: &[Library]) {
     for Library { order, keys, fill } in libraries {
-        let call = listing_of(case, *order, keys);
+        let contents = case.contents_under(salt, *order, keys);
+        let call = listing_of(&contents);
         case.call_and_check(call, |outcome| missed_fill(outcome, *fill));
     }
 }
@@ -126,9 +137,9 @@ const FULL: [(usize, usize); 23] = [
 
 /// All blocks full; then one to four keys fewer, the last of those that lie deepest, which
 /// leaves as many blocks: the fill is what is left of all the keys.
-fn full_libraries(order: usize, levels: usize) -> Vec<Library> {
+fn full_libraries(salt: u64, order: usize, levels: usize) -> Vec<Library> {
     let depths = full(order, levels);
-    let keys = keys_at(&depths);
+    let keys = keys_at(salt, &depths);
     let library = |gone| {
         let left = without_deepest(&keys, &depths, gone);
         Library {
@@ -166,8 +177,8 @@ const COMBS: [(u64, usize, u64); 13] = [
     (255, 2048, 0),
 ];
 
-fn comb_library((order, teeth, fill): (u64, usize, u64)) -> Library {
-    let keys = keys_at(&comb(teeth));
+fn comb_library(salt: u64, (order, teeth, fill): (u64, usize, u64)) -> Library {
+    let keys = keys_at(salt, &comb(teeth));
     Library { order, keys, fill }
 }
 
@@ -175,6 +186,9 @@ fn comb_library((order, teeth, fill): (u64, usize, u64)) -> Library {
 mod tests {
     use super::*;
     use crate::tables::blocks_of;
+
+    /// Libraries have as many blocks under one salt as under another.
+    const SALT: u64 = 77;
 
     /// How full, by a rule, so many keys are in so many blocks of an order.
     type Rule = fn(u64, u64, u64) -> u64;
@@ -201,10 +215,10 @@ mod tests {
 
     /// Order, keys, blocks and fill of the libraries above.
     fn figures() -> Vec<(u64, u64, u64, u64)> {
-        let full = FULL.iter().flat_map(|&(o, l)| full_libraries(o, l));
-        let all = full.chain(COMBS.map(comb_library));
+        let full = FULL.iter().flat_map(|&(o, l)| full_libraries(SALT, o, l));
+        let all = full.chain(COMBS.map(|comb| comb_library(SALT, comb)));
         let figures = |Library { order, keys, fill }: Library| {
-            let blocks = blocks_of(order, &keys);
+            let blocks = blocks_of(&Contents::unmeasured(order, &keys).salted(SALT));
             (order, keys.len() as u64, blocks, fill)
         };
         all.map(figures).collect()

@@ -5,9 +5,8 @@ use super::{exercise, Section};
 use crate::call::Call;
 use crate::case::{Case, Tally};
 use crate::generator::BAD_ORDERS;
-use crate::measures::random_set;
 use crate::tables::{make_unsound, table_length};
-use reference::load::{operations, Operation};
+use reference::load::{operations, Operation, NO_SALT};
 
 pub const SECTION: Section = Section { name: "loads", run };
 
@@ -73,14 +72,13 @@ fn every_count(case: &mut Case, slots: usize) {
     (0..60).for_each(|count| load(case, order, seed, count));
 }
 
-/// Whatever the words were: a full table, one of another order, a damaged one,
-/// all ones.
+/// Whatever the words were: a full table, one of another order, of some salt, a damaged
+/// one, all ones.
 fn over_other_words(case: &mut Case, slots: usize) {
     let keys = case.random.keys(slots);
     for damaged in [false, true] {
         for order in [3, 200] {
-            let set = random_set(&keys, &mut case.random);
-            case.lend_measured(slots, order, &set);
+            exercise::lend_keys(case, slots, order, &keys);
             if damaged {
                 make_unsound(&mut case.table);
             }
@@ -100,7 +98,7 @@ fn turned_down(case: &mut Case, slots: usize) {
         for order in BAD_ORDERS {
             case.refused(Call::Load { order, seed, count }, 2);
         }
-        for length in [0, 3, 10, 12, table_length(slots) - 1, 32_779] {
+        for length in [0, 4, 11, 13, table_length(slots) - 1, 32_780] {
             case.table.resize(length, seed);
             for order in [3, 16, 255, 2, 256] {
                 case.refused(Call::Load { order, seed, count }, 1);
@@ -109,12 +107,12 @@ fn turned_down(case: &mut Case, slots: usize) {
     }
 }
 
-/// "In a history a load counts as its set-up and operations."
+/// "In a history a load counts as its set-up and operations." "Loads use salt zero".
 fn one_by_one(case: &mut Case, slots: usize) {
     exercise::lend_rubbish(case, slots);
-    let (order, seed) = (case.random.order(), case.random.number());
+    let (order, salt, seed) = (case.random.order(), NO_SALT, case.random.number());
     let count = case.random.below(300) as u16;
-    case.refused(Call::SetUp { order }, 0);
+    case.refused(Call::SetUp { order, salt }, 0);
     for operation in operations(seed, count) {
         case.call(match operation {
             Operation::Insert(key) => Call::insert(key),

@@ -5,10 +5,9 @@ use super::{exercise, Section};
 use crate::call::Call;
 use crate::case::{Case, Tally};
 use crate::list::List;
-use crate::measures::random_set;
-use crate::tables::{image_of, measured_image, set_in};
+use crate::tables::{contents_in, image_of, MEASURED_NODE, NODE};
 use reference::measure::Measure;
-use reference::Set;
+use reference::Contents;
 
 pub const SECTION: Section = Section { name: "long", run };
 
@@ -33,42 +32,43 @@ fn long_list(case: &mut Case, number: u64) {
     for slots in [1, 64, 4096] {
         exercise::lend_rubbish(case, slots);
         let order = case.random.order();
-        let list = List::of(&random_set(&rising, &mut case.random));
-        case.refused(Call::Build { order, list }, 10);
+        let contents = case.contents(order, &rising);
+        case.refused(Call::build(&contents), 10);
+        let salt = contents.salt;
         for (place, key) in [(0, 0), (last, 0), (last, 1), (last / 2, 1)] {
-            let mut keys = rising.clone();
-            keys[place] = key;
-            case.refused(Call::build(order, &keys), 5);
+            let mut list = List::unmeasured(&rising);
+            list.keys[place] = key;
+            case.refused(Call::Build { order, salt, list }, 5);
         }
-        long_measures(case, order, &rising);
+        long_measures(case, [order, salt], &rising);
     }
 }
 
 /// A measure outside the rules is found at either end, and lists of other lengths,
 /// also where a length cut to two bytes would be right.
-fn long_measures(case: &mut Case, order: u64, rising: &[u64]) {
+fn long_measures(case: &mut Case, [order, salt]: [u64; 2], rising: &[u64]) {
     let (right, number) = (List::unmeasured(rising), rising.len());
+    let mut turned_down = |list| case.refused(Call::Build { order, salt, list }, 12);
     for place in [0, number / 2, number - 1] {
         let mut list = right.clone();
         list.lengths[place] = 9_999;
-        case.refused(Call::Build { order, list }, 12);
+        turned_down(list);
         let mut list = right.clone();
         list.corrections[place] = 1;
-        case.refused(Call::Build { order, list }, 12);
+        turned_down(list);
     }
     for more in [1, 65_536] {
         let mut list = right.clone();
         list.lengths.resize(number + more, 0);
-        case.refused(Call::Build { order, list }, 12);
+        turned_down(list);
         let mut list = right.clone();
         list.corrections.resize(number + more, 0);
-        case.refused(Call::Build { order, list }, 12);
+        turned_down(list);
     }
-    let list = List {
+    turned_down(List {
         keys: vec![rising[0]],
         ..right
-    };
-    case.refused(Call::Build { order, list }, 12);
+    });
 }
 
 /// As many lines are no fault; one at either end is found.
@@ -92,11 +92,17 @@ fn long_batch(case: &mut Case, number: u64) {
 /// have.
 fn long_image(case: &mut Case, number: u64) {
     exercise::lend_rubbish(case, 7);
-    let measure = Measure::new(26_500, 0);
-    let measured = |key: u64| (key, measure);
+    let salt = case.salt();
+    let unmeasured = |keys: &[u64]| Contents::unmeasured(3, keys).salted(salt);
+    let measured = |keys: &[u64]| {
+        let mut contents = unmeasured(keys);
+        let measures = contents.set.values_mut();
+        measures.for_each(|measure| *measure = Measure::new(26_500, 0));
+        contents
+    };
     for (one, length) in [
-        (image_of(3, &[5]), 30),
-        (measured_image(3, &[measured(5)].into()), 36),
+        (image_of(&unmeasured(&[5])), NODE),
+        (image_of(&measured(&[5])), MEASURED_NODE),
     ] {
         let node = &one[one.len() - length..];
         let mut nodes = one.clone();
@@ -107,9 +113,8 @@ fn long_image(case: &mut Case, number: u64) {
     }
     if number < MORE_THAN_TWO_BYTES {
         let keys: Vec<u64> = (1..=number).collect();
-        not_an_image(case, image_of(3, &keys));
-        let set: Set = (1..=number).map(measured).collect();
-        not_an_image(case, measured_image(3, &set));
+        not_an_image(case, image_of(&unmeasured(&keys)));
+        not_an_image(case, image_of(&measured(&keys)));
     }
 }
 
@@ -123,12 +128,13 @@ fn not_an_image(case: &mut Case, image: Vec<u8>) {
 fn long_output(case: &mut Case, slots: usize) {
     let order = case.random.order();
     let keys = case.random.keys(slots);
-    exercise::build(case, slots, order, &keys);
+    let contents = case.contents(order, &keys);
+    exercise::build(case, slots, &contents);
     let room = 1 << 20;
     let (low, high) = (0, u64::MAX);
     case.refused(Call::Range { low, high, room }, 0);
     case.refused(Call::Write { room }, 0);
     case.refused(Call::Pages { room }, 0);
-    let image = measured_image(order, &set_in(&case.table));
+    let image = image_of(&contents_in(&case.table));
     case.refused(Call::List { image, room }, 0);
 }

@@ -5,10 +5,11 @@ use super::{exercise, Section, SLOTS};
 use crate::call::Call;
 use crate::case::{Case, Tally};
 use crate::list::List;
-use crate::measures::{measured, random_set, CORNERS, WRONG};
-use crate::tables::{image_length, listing_length, measured_image, set_in};
+use crate::measures::{measured, CORNERS, WRONG};
+use crate::salts::contents_of;
+use crate::tables::{contents_in, image_length, image_of, listing_length};
 use reference::measure::Measure;
-use reference::Set;
+use reference::Contents;
 
 pub const SECTION: Section = Section {
     name: "measures",
@@ -40,16 +41,16 @@ fn taken(case: &mut Case, measure: Measure) {
         0 => 0,
         _ => (measure.correction + 5_000) as u64,
     };
-    let due = [ORDER, 1, 5, 5, 0, 0, 0, 0, 1, measure.length, stored];
-    let set: Set = [(5, measure)].into();
-    let (order, key, list) = (ORDER, 5, List::of(&set));
-    let image = measured_image(ORDER, &set);
+    let salt = case.salt();
+    let due = [ORDER, 1, 5, salt, 5, 0, 0, 0, 0, 1, measure.length, stored];
+    let contents = contents_of(salt, ORDER, [(5, measure)]);
+    let (key, image) = (5, image_of(&contents));
     for call in [
         Call::Insert { key, measure },
-        Call::Build { order, list },
+        Call::build(&contents),
         Call::Read { image },
     ] {
-        case.lend_sound(1, ORDER, &[]);
+        case.lend(1, &Contents::unmeasured(ORDER, &[]).salted(salt));
         case.call_and_check(call, |outcome| {
             let given = &outcome.table;
             (given[..] != due).then(|| format!("words {given:?}, not {due:?}"))
@@ -58,7 +59,7 @@ fn taken(case: &mut Case, measure: Measure) {
     found(case, 5, measure);
     found(case, 6, Measure::NONE);
     exercise::write(case);
-    exercise::list_set(case, ORDER, &set);
+    exercise::list(case, &contents);
 }
 
 /// A lookup gives this measure.
@@ -74,11 +75,11 @@ fn found(case: &mut Case, key: u64, measure: Measure) {
 /// and put back, the key has the new one.
 fn another_measure(case: &mut Case, measure: Measure) {
     let keys = [4, 5, 9];
-    let set = random_set(&keys, &mut case.random);
-    case.lend_measured(4, ORDER, &set);
+    let contents = case.contents(ORDER, &keys);
+    case.lend(4, &contents);
     for key in keys {
         case.refused(Call::Insert { key, measure }, 8);
-        found(case, key, set[&key]);
+        found(case, key, contents.set[&key]);
         case.refused(Call::Delete { key }, 0);
         case.refused(Call::Insert { key, measure }, 0);
         found(case, key, measure);
@@ -89,7 +90,7 @@ fn another_measure(case: &mut Case, measure: Measure) {
 /// A measure outside the rules, on insert and on build at every place of the lists.
 fn turned_down(case: &mut Case, measure: Measure) {
     for (slots, held) in [(1, vec![]), (3, vec![4, 9]), (2, vec![4, 9])] {
-        case.lend_sound(slots, ORDER, &held);
+        exercise::lend_keys(case, slots, ORDER, &held);
         for (key, refusal) in [(0, 3), (5, 12), (9, 12), (u64::MAX, 12)] {
             case.refused(Call::Insert { key, measure }, refusal);
         }
@@ -97,10 +98,9 @@ fn turned_down(case: &mut Case, measure: Measure) {
     for slots in [1, 4] {
         for place in 0..4 {
             exercise::lend_rubbish(case, slots);
-            let (order, mut set) = (ORDER, random_set(&[4, 5, 9, 12], &mut case.random));
-            set.insert([4, 5, 9, 12][place], measure);
-            let list = List::of(&set);
-            case.refused(Call::Build { order, list }, 12);
+            let mut contents = case.contents(ORDER, &[4, 5, 9, 12]);
+            contents.set.insert([4, 5, 9, 12][place], measure);
+            case.refused(Call::build(&contents), 12);
         }
     }
 }
@@ -109,7 +109,8 @@ fn turned_down(case: &mut Case, measure: Measure) {
 /// list might have.
 fn lists_of_other_lengths(case: &mut Case, slots: usize) {
     let (order, keys) = (case.random.order(), case.random.keys(slots));
-    let right = List::of(&random_set(&keys, &mut case.random));
+    let contents = case.contents(order, &keys);
+    let (right, salt) = (List::of(&contents), contents.salt);
     exercise::lend_rubbish(case, slots);
     for lengths in [slots - 1, slots, slots + 1, 0] {
         for corrections in [slots - 1, slots, slots + 1, 0] {
@@ -121,12 +122,12 @@ fn lists_of_other_lengths(case: &mut Case, slots: usize) {
             } else {
                 12
             };
-            case.refused(Call::Build { order, list }, refusal);
+            case.refused(Call::Build { order, salt, list }, refusal);
         }
     }
     let mut list = right;
     list.keys.clear();
-    case.refused(Call::Build { order, list }, 12);
+    case.refused(Call::Build { order, salt, list }, 12);
 }
 
 /// One measure of many outside the rules, the first, the last or any; 12 also where
@@ -136,11 +137,9 @@ fn one_wrong_entry(case: &mut Case, slots: usize) {
         let (order, keys) = (case.random.order(), case.random.keys(number));
         exercise::lend_rubbish(case, slots);
         for place in [0, number - 1, case.random.below(number)] {
-            let mut list = List::of(&random_set(&keys, &mut case.random));
-            let wrong = case.random.pick(&WRONG);
-            list.lengths[place] = wrong.length;
-            list.corrections[place] = wrong.correction;
-            case.refused(Call::Build { order, list }, 12);
+            let mut contents = case.contents(order, &keys);
+            contents.set.insert(keys[place], case.random.pick(&WRONG));
+            case.refused(Call::build(&contents), 12);
         }
     }
 }
@@ -149,19 +148,20 @@ fn one_wrong_entry(case: &mut Case, slots: usize) {
 fn each_share(case: &mut Case, slots: usize) {
     let (order, keys) = (case.random.order(), case.random.keys(slots));
     for share in [0, 1, 2] {
-        let measure = |(i, &key): (usize, &u64)| match i % 2 < share {
-            true => (key, measured(&mut case.random)),
-            false => (key, Measure::NONE),
-        };
-        let set: Set = keys.iter().enumerate().map(measure).collect();
+        let mut contents = case.contents(order, &keys);
+        for (i, measure) in contents.set.values_mut().enumerate() {
+            *measure = match i % 2 < share {
+                true => measured(&mut case.random),
+                false => Measure::NONE,
+            };
+        }
         exercise::lend_rubbish(case, slots);
-        let list = List::of(&set);
-        case.refused(Call::Build { order, list }, 0);
+        case.refused(Call::build(&contents), 0);
         let some = case.random.pick(&keys);
-        found(case, keys[0], set[&keys[0]]);
-        found(case, some, set[&some]);
+        found(case, keys[0], contents.set[&keys[0]]);
+        found(case, some, contents.set[&some]);
         exercise::write(case);
-        let (image, room) = (measured_image(order, &set), listing_length(order, &keys));
+        let (image, room) = (image_of(&contents), listing_length(&contents));
         exercise::lend_rubbish(case, slots);
         let copy = image.clone();
         case.refused(Call::Read { image: copy }, 0);
@@ -174,14 +174,13 @@ fn each_share(case: &mut Case, slots: usize) {
 fn unmeasured_by_a_load(case: &mut Case) {
     let keys: Vec<u64> = (1..=512).collect();
     for slots in [512, 600] {
-        let all: Set = keys
-            .iter()
-            .map(|&key| (key, measured(&mut case.random)))
-            .collect();
-        case.lend_measured(slots, ORDER, &all);
+        let mut all = case.contents(ORDER, &keys);
+        let measures = all.set.values_mut();
+        measures.for_each(|measure| *measure = measured(&mut case.random));
+        case.lend(slots, &all);
         let (order, seed, count) = (ORDER, case.random.number(), 2_000);
         case.call_and_check(Call::Load { order, seed, count }, |outcome| {
-            let set = set_in(&outcome.table);
+            let set = contents_in(&outcome.table).set;
             let is_any = set.values().any(|measure| measure.is_measured());
             is_any.then(|| "a load left a measured key".to_string())
         });

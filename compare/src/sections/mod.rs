@@ -23,6 +23,7 @@ mod measures;
 mod points;
 mod printed;
 mod refusals;
+mod salts;
 mod sets;
 mod shapes;
 mod sizes;
@@ -39,7 +40,7 @@ pub struct Section {
 }
 
 /// All sections; the longest first, so that threads finish together.
-pub const SECTIONS: [Section; 26] = [
+pub const SECTIONS: [Section; 27] = [
     loads::SECTION,
     batches::SECTION,
     histories::SECTION,
@@ -55,6 +56,7 @@ pub const SECTIONS: [Section; 26] = [
     damaged_tables::SECTION,
     damaged_images::SECTION,
     forged::SECTION,
+    salts::SECTION,
     points::SECTION,
     measures::SECTION,
     damaged_measures::SECTION,

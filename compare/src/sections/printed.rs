@@ -7,9 +7,10 @@ use crate::call::Call;
 use crate::case::{Case, Tally};
 use crate::keys::Chain;
 use crate::measures::{measured, right};
+use crate::salts;
 use crate::tables::{make_unsound, pages_length};
 use reference::measure::{Measure, GREATEST_CORRECTION, LEAST_CORRECTION};
-use reference::{Set, MOST_SLOTS};
+use reference::{Contents, MOST_SLOTS};
 
 pub const SECTION: Section = Section {
     name: "printed",
@@ -49,11 +50,12 @@ fn run(tally: &mut Tally) {
 /// So many keys, in as many slots and in more.
 fn each_output(case: &mut Case, number: usize, order: u64, share: fn(&mut Case) -> Measure) {
     let keys = case.random.keys(number);
-    let measure = |&key: &u64| (key, share(case));
-    let set: Set = keys.iter().map(measure).collect();
+    let mut contents = case.contents(order, &keys);
+    let measures = contents.set.values_mut();
+    measures.for_each(|measure| *measure = share(case));
     let more = (number + 1 + case.random.below(100)).min(MOST_SLOTS);
     for slots in [number.max(1), more] {
-        case.lend_measured(slots, order, &set);
+        case.lend(slots, &contents);
         laid_out(case, &keys);
         outputs(case, number);
     }
@@ -92,11 +94,11 @@ fn every_size(case: &mut Case, order: u64) {
     for (least, greatest) in [(15, 55), (56, 95), (96, 135)] {
         let sizes = least..=greatest;
         let lasts: Vec<Measure> = sizes.flat_map(|size| lasts_of(case, size)).collect();
-        let keys = case.random.keys(lasts.len());
-        let set: Set = keys.into_iter().zip(lasts).collect();
-        case.lend_measured(set.len(), order, &set);
-        let room = pages_length(set.len());
-        let due: Vec<String> = set.values().map(|&last| size_of(last)).collect();
+        let (keys, salt) = (case.random.keys(lasts.len()), case.salt());
+        let due: Vec<String> = lasts.iter().map(|&last| size_of(last)).collect();
+        let set = keys.into_iter().zip(lasts).collect();
+        case.lend(due.len(), &Contents { order, salt, set });
+        let room = pages_length(due.len());
         case.call_and_check(Call::Pages { room }, |outcome| {
             let given = sizes_in(&outcome.bytes);
             (given != due).then(|| format!("sizes {given:?}, not {due:?}"))
@@ -144,11 +146,13 @@ fn sizes_in(bytes: &[u8]) -> Vec<String> {
 
 /// A chain: of order 3 it has ranks of four digits, of order 255 counts of three.
 fn ranks_and_counts(case: &mut Case, order: u64) {
-    let longest = Chain::Right.keys(2_010);
+    let salt = case.salt();
+    let longest = Chain::Right.keys(salt, 2_010);
     for number in [
         9, 10, 11, 12, 19, 20, 21, 22, 199, 200, 201, 202, 1_999, 2_000, 2_010,
     ] {
-        exercise::lend_keys(case, number, order, &longest[..number]);
+        let contents = case.contents_under(salt, order, &longest[..number]);
+        case.lend(number, &contents);
         let room = pages_length(number);
         case.refused(Call::Pages { room }, 0);
     }
@@ -165,7 +169,7 @@ fn turned_down(case: &mut Case, number: usize) {
         case.refused(Call::Pages { room }, refusal);
         make_unsound(&mut case.table);
         case.refused(Call::Pages { room }, 7);
-        for length in [sound.len() - 1, sound.len() + 1, 3, 2, 1, 0] {
+        for length in [sound.len() - 1, sound.len() + 1, 4, 3, 1, 0] {
             case.table.resize(length, 0);
             case.refused(Call::Pages { room }, 1);
         }
@@ -174,7 +178,7 @@ fn turned_down(case: &mut Case, number: usize) {
 }
 
 /// Each word of the first slots changed in turn: 7 whatever the output, unless it is a
-/// measure or an order that could be right as well.
+/// measure, an order or a salt that could be right as well.
 fn damaged(case: &mut Case, sound: &[u64], length: usize) {
     for word in 0..sound.len().min(60) {
         for room in [0, length - 1, length] {
@@ -185,12 +189,14 @@ fn damaged(case: &mut Case, sound: &[u64], length: usize) {
     }
 }
 
-/// Texts written by hand.
+/// Texts written by hand, which are the same under every salt.
 fn known(case: &mut Case) {
-    case.lend_sound(1, 3, &[]);
-    exactly(case, "PAGE 0001\n");
-    case.lend_sound(64, 255, &[]);
-    exactly(case, "PAGE 0001\n");
+    for salt in salts::ENDS {
+        for (slots, order) in [(1, 3), (64, 255)] {
+            case.lend(slots, &Contents::unmeasured(order, &[]).salted(salt));
+            exactly(case, "PAGE 0001\n");
+        }
+    }
     for (key, measure, line) in [
         (
             5,
@@ -213,8 +219,11 @@ fn known(case: &mut Case) {
             "FFFFFFFFFFFFFFFF    0    1 0000000000000000 67.5",
         ),
     ] {
-        case.lend_measured(1, 3, &[(key, measure)].into());
-        exactly(case, &format!("PAGE 0001\n{line}\n"));
+        for salt in [0, key] {
+            let (order, set) = (3, [(key, measure)].into());
+            case.lend(1, &Contents { order, salt, set });
+            exactly(case, &format!("PAGE 0001\n{line}\n"));
+        }
     }
 }
 

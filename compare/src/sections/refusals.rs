@@ -12,11 +12,11 @@ use crate::list::List;
 use crate::measures::{spoil_measures, CORNERS, WRONG};
 use crate::random::Random;
 use crate::tables::{
-    image_length, length_word, listing_length, make_unsound, measured_image, measured_table,
-    pages_length, slot_start, sound_table,
+    image_of, length_word, listing_length, make_unsound, pages_length, slot_start, sound_table,
+    HEADER, NODE,
 };
 use reference::measure::Measure;
-use reference::Set;
+use reference::Contents;
 
 pub const SECTION: Section = Section {
     name: "refusals",
@@ -34,6 +34,9 @@ const TOO_MANY: [u64; 4] = [10, 20, 30, 40];
 const SETS: [&[u64]; 3] = [&[], &FEW, &FULL];
 const HELD: u64 = 20;
 const ABSENT: u64 = 25;
+
+/// Salts, none of which is a fault.
+const SALTS: [u64; 7] = [0, 1, 1 << 63, u64::MAX, HELD, ABSENT, 0x5EED_5EED_5EED];
 
 /// Faults by the numbers of their refusals, in the order in which the call checks,
 /// and which of the ways to arrange them.
@@ -56,12 +59,18 @@ impl Faults {
         from[self.way % from.len()]
     }
 
-    /// The keys with right measures, not the same in every way; in the first way none
-    /// is measured.
-    fn set(&self, keys: &[u64]) -> Set {
-        let measure = |i: usize| CORNERS[self.way * i % CORNERS.len()];
-        let keys = keys.iter().enumerate();
-        keys.map(|(i, &key)| (key, measure(i + 1))).collect()
+    fn salt(&self) -> u64 {
+        self.pick(&SALTS)
+    }
+
+    /// The keys under a salt with right measures, not the same in every way; in the first
+    /// way there is no salt, and none is measured.
+    fn contents(&self, keys: &[u64]) -> Contents {
+        let mut contents = Contents::unmeasured(ORDER, keys).salted(self.salt());
+        for (i, measure) in (1..).zip(contents.set.values_mut()) {
+            *measure = CORNERS[self.way * i % CORNERS.len()];
+        }
+        contents
     }
 
     /// The first if there is the fault, else the second.
@@ -163,13 +172,13 @@ fn try_faults(case: &mut Case, kind: &Kind, faults: &Faults) {
 
 fn table(faults: &Faults, full: bool) -> Vec<u64> {
     let keys = if full { &FULL[..] } else { &FEW };
-    let mut table = measured_table(SLOTS, ORDER, &faults.set(keys));
+    let mut table = sound_table(SLOTS, &faults.contents(keys));
     if faults.has(7) {
         damage(faults, &mut table);
     }
     if faults.has(1) {
         let length = table.len();
-        let lengths = [length + 1, length - 1, 0, 1, 3, 10, 12, 32_779, 32_770];
+        let lengths = [length + 1, length - 1, 0, 1, 4, 11, 13, 32_780, 32_771];
         table.resize(faults.pick(&lengths), 0);
     }
     table
@@ -195,13 +204,13 @@ fn order(faults: &Faults) -> u64 {
 }
 
 fn set_up(faults: &Faults) -> Call {
-    let order = order(faults);
-    Call::SetUp { order }
+    let (order, salt) = (order(faults), faults.salt());
+    Call::SetUp { order, salt }
 }
 
 fn build(faults: &Faults) -> Call {
     let keys = faults.choose(10, &TOO_MANY[..], faults.pick(&SETS));
-    let mut list = List::of(&faults.set(keys));
+    let mut list = List::of(&faults.contents(keys));
     let mut random = Random::new(faults.way as u64);
     if faults.has(12) {
         spoil_measures(&mut list, &mut random);
@@ -210,8 +219,8 @@ fn build(faults: &Faults) -> Call {
         spoil_list(&mut list.keys, &mut random);
         keep_to(&mut list, faults);
     }
-    let order = order(faults);
-    Call::Build { order, list }
+    let (order, salt) = (order(faults), faults.salt());
+    Call::Build { order, salt, list }
 }
 
 /// Spoiling may have made one key of none, for which there is no measure; that is no
@@ -281,19 +290,20 @@ fn step(faults: &Faults) -> Call {
 }
 
 fn write(faults: &Faults) -> Call {
-    let length = image_length(&measured_table(SLOTS, ORDER, &faults.set(&FEW)));
-    let short = faults.pick(&[length - 1, 0, 15, 30]);
+    let length = image_of(&faults.contents(&FEW)).len();
+    let short = faults.pick(&[length - 1, 0, HEADER, length - 8]);
     let room = faults.choose(11, short, length + faults.way % 3);
     Call::Write { room }
 }
 
 fn image(faults: &Faults) -> Vec<u8> {
     let keys = faults.choose(10, &TOO_MANY[..], faults.pick(&SETS));
-    let mut image = measured_image(ORDER, &faults.set(keys));
+    let mut image = image_of(&faults.contents(keys));
     if faults.has(6) {
         let part = faults.way * 7 % image.len();
         match faults.way % 8 {
             0 => image.truncate(part),
+            1 | 5 => image = image_with_wrong_header(faults, keys),
             2 => image.push(b'L'),
             4 => image[2] = faults.pick(&[2, 0, 1]),
             6 => image[0] = 0,
@@ -301,6 +311,20 @@ fn image(faults: &Faults) -> Vec<u8> {
         }
     }
     image
+}
+
+/// An image but for its mark or its salt: `LS` with zero, without a salt or with half of
+/// it, and `LH` with one.
+fn image_with_wrong_header(faults: &Faults, keys: &[u64]) -> Vec<u8> {
+    let plain = image_of(&faults.contents(keys).salted(0));
+    let (fields, records) = plain[2..].split_at(HEADER - 2);
+    let salt = 0x5EEDu64.to_le_bytes();
+    match faults.way / 4 % 4 {
+        0 => [b"LS", fields, &[0; 8], records].concat(),
+        1 => [b"LS", fields, records].concat(),
+        2 => [b"LS", fields, &salt[..4], records].concat(),
+        _ => [b"LH", fields, &salt, records].concat(),
+    }
 }
 
 /// Lengths and stored corrections that a record of a measured key never has.
@@ -321,11 +345,12 @@ const WRONG_NUMBERS: [(u32, u16); 11] = [
 /// An image but for the measure of one key; for no keys that of a few.
 fn image_with_wrong_measure(faults: &Faults, keys: &[u64]) -> Vec<u8> {
     let keys = if keys.is_empty() { &FEW[..] } else { keys };
-    let mut set = faults.set(keys);
-    set.insert(faults.pick(keys), Measure::new(26_500, 0));
-    let mut image = measured_image(ORDER, &set);
+    let mut contents = faults.contents(keys);
+    let measure = Measure::new(26_500, 0);
+    contents.set.insert(faults.pick(keys), measure);
+    let mut image = image_of(&contents);
     let (length, correction) = faults.pick(&WRONG_NUMBERS);
-    let at = faults.pick(&measured_records(&image)) + 30;
+    let at = faults.pick(&measured_records(&image)) + NODE;
     image[at..at + 4].copy_from_slice(&length.to_le_bytes());
     image[at + 4..at + 6].copy_from_slice(&correction.to_le_bytes());
     image
@@ -338,7 +363,7 @@ fn read(faults: &Faults) -> Call {
 
 fn list(faults: &Faults) -> Call {
     let image = image(faults);
-    let length = listing_length(ORDER, faults.pick(&SETS));
+    let length = listing_length(&faults.contents(faults.pick(&SETS)));
     let short = faults.pick(&[length - 1, 0, 20]);
     let room = faults.choose(11, short, length + faults.way % 3);
     Call::List { image, room }
@@ -364,7 +389,7 @@ fn marks_of_done(case: &mut Case) {
             done,
             ..Place::WHOLE
         };
-        case.table = sound_table(SLOTS, ORDER, &FEW);
+        case.lend(SLOTS, &Contents::unmeasured(ORDER, &FEW).salted(done));
         case.refused(Call::Step { place }, 0);
         make_unsound(&mut case.table);
         case.refused(Call::Step { place }, 7);

@@ -24,11 +24,12 @@ fn run(tally: &mut Tally) {
             tally.case(|case| {
                 let number = case.random.fill(slots);
                 let keys = case.random.keys(number);
-                exercise::build(case, slots, order, &keys);
+                let contents = case.contents(order, &keys);
+                exercise::build(case, slots, &contents);
                 exercise::write(case);
                 exercise::pages(case);
-                exercise::read(case, slots, order, &keys);
-                exercise::list(case, order, &keys);
+                exercise::read(case, slots, &contents);
+                exercise::list(case, &contents);
                 questions(case, &keys);
                 changes(case, slots, &keys);
             });

@@ -16,8 +16,10 @@ fn run(tally: &mut Tally) {
         for places in permutations(number) {
             for order in [3, 4] {
                 tally.case(|case| {
-                    let keys = keys_at(&places);
-                    exercise::build(case, number + 1, order, &keys);
+                    let salt = case.salt();
+                    let keys = keys_at(salt, &places);
+                    let contents = case.contents_under(salt, order, &keys);
+                    exercise::build(case, number + 1, &contents);
                     exercise::write(case);
                     exercise::look_up(case, &keys);
                     exercise::take_out_and_put_back(case, &keys);

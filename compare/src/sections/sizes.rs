@@ -6,7 +6,7 @@ use super::{exercise, Section};
 use crate::batches::with_neighbours;
 use crate::call::{Call, Place};
 use crate::case::{Case, Tally};
-use crate::tables::{listing_length, measured_image, pages_length, set_in};
+use crate::tables::{contents_in, image_of, listing_length, pages_length};
 use reference::MOST_SLOTS;
 
 pub const SECTION: Section = Section { name: "sizes", run };
@@ -38,7 +38,8 @@ fn each_call(case: &mut Case, slots: usize, number: usize) {
     let order = case.random.order();
     let mut keys = case.random.keys(number + 1);
     let fresh = keys.remove(case.random.below(number + 1));
-    exercise::build(case, slots, order, &keys);
+    let contents = case.contents(order, &keys);
+    exercise::build(case, slots, &contents);
     let refusal = if number < slots { 0 } else { 10 };
     exercise::insert(case, fresh, refusal);
     case.call(Call::Delete { key: fresh });
@@ -52,8 +53,8 @@ fn each_call(case: &mut Case, slots: usize, number: usize) {
         ranges(case, &keys);
     }
     exercise::steps(case, Place::WHOLE, 2);
-    outputs(case, order, &keys);
-    exercise::read(case, slots, order, &keys);
+    outputs(case);
+    exercise::read(case, slots, &contents);
 }
 
 /// Ranges from a held key to another, each just fitting; of one key alone, also
@@ -74,14 +75,15 @@ fn ranges(case: &mut Case, keys: &[u64]) {
 }
 
 /// All that is written of the table, each just fitting.
-fn outputs(case: &mut Case, order: u64, keys: &[u64]) {
-    let (low, high, room) = (0, u64::MAX, keys.len());
+fn outputs(case: &mut Case) {
+    let contents = contents_in(&case.table);
+    let (low, high, room) = (0, u64::MAX, contents.set.len());
     case.refused(Call::Range { low, high, room }, 0);
-    let image = measured_image(order, &set_in(&case.table));
+    let image = image_of(&contents);
     let room = image.len();
     case.refused(Call::Write { room }, 0);
-    let room = pages_length(keys.len());
+    let room = pages_length(contents.set.len());
     case.refused(Call::Pages { room }, 0);
-    let room = listing_length(order, keys);
+    let room = listing_length(&contents);
     case.refused(Call::List { image, room }, 0);
 }

@@ -57,10 +57,11 @@ fn all_but_one(case: &mut Case, number: usize) {
 /// small one each holds few.
 fn blocks(case: &mut Case, number: usize, order: u64) {
     let keys = case.random.keys(number);
-    exercise::build(case, number, order, &keys);
+    let contents = case.contents(order, &keys);
+    exercise::build(case, number, &contents);
     exercise::write(case);
-    exercise::read(case, number, order, &keys);
-    exercise::list(case, order, &keys);
+    exercise::read(case, number, &contents);
+    exercise::list(case, &contents);
 }
 
 /// A table in which the key of one slot stands in another too.
@@ -77,13 +78,14 @@ fn twice(case: &mut Case, number: usize) {
 /// Calls of each kind but steps and batches, on a table that is full.
 fn each(case: &mut Case, keys: &[u64]) {
     let (slots, order) = (keys.len(), case.random.order());
-    exercise::build(case, slots, order, keys);
+    let contents = case.contents(order, keys);
+    exercise::build(case, slots, &contents);
     exercise::write(case);
     exercise::whole_range(case);
     let some = [keys[0], case.random.pick(keys), keys[slots - 1]];
     exercise::look_up(case, &some);
     exercise::take_out_and_put_back(case, &some);
-    exercise::read(case, slots, order, keys);
-    exercise::list(case, order, keys);
+    exercise::read(case, slots, &contents);
+    exercise::list(case, &contents);
     assert_eq!(keys_in(&case.table), keys);
 }

@@ -1,10 +1,10 @@
-//! Pairs of keys of equal priority, of which the lesser outranks the greater
-//! and both have one home.
+//! Pairs of keys of equal priority under a salt, of which the lesser outranks the
+//! greater and both have one home.
 
 use super::{exercise, Section};
 use crate::call::Call;
 use crate::case::{Case, Tally};
-use crate::keys::home_of;
+use crate::keys::{tie_under, ties, Home};
 use reference::priority::TIES;
 
 pub const SECTION: Section = Section { name: "ties", run };
@@ -24,8 +24,8 @@ fn run(tally: &mut Tally) {
     }
 }
 
-/// The known pairs, and those that come of exchanging the two keys' bytes at
-/// one place, which leaves the priorities equal.
+/// The known pairs without a salt, and those that come of exchanging the two keys' bytes
+/// at one place, which leaves the priorities equal.
 fn all_pairs() -> Vec<(u64, u64)> {
     let mut pairs = TIES.to_vec();
     for (a, b) in TIES {
@@ -38,14 +38,18 @@ fn all_pairs() -> Vec<(u64, u64)> {
 }
 
 fn one_pair(case: &mut Case, slots: usize, pair: (u64, u64), others: usize) {
-    assert_eq!(home_of(pair.0, slots), home_of(pair.1, slots));
+    let salt = case.salt();
+    let pair = tie_under(salt, pair);
+    let [one, other] = [pair.0, pair.1].map(|key| Home::of(salt, key, slots));
+    assert_eq!(one, other);
     let mut keys = vec![pair.0, pair.1];
     keys.extend(case.random.keys(others + 2));
     keys.truncate(2 + others);
     keys.sort_unstable();
     keys.dedup();
     let order = case.random.order();
-    exercise::everything(case, slots, order, &keys);
+    let contents = case.contents_under(salt, order, &keys);
+    exercise::everything(case, slots, &contents);
     exercise::look_up(case, &keys);
     exercise::take_out_and_put_back(case, &[pair.0, pair.1]);
     exercise::take_out_and_put_back(case, &[pair.1, pair.0]);
@@ -53,9 +57,11 @@ fn one_pair(case: &mut Case, slots: usize, pair: (u64, u64), others: usize) {
 
 /// All known pairs in one table, put in and taken out in any order.
 fn all_at_once(case: &mut Case, slots: usize) {
-    let mut keys: Vec<u64> = TIES.iter().flat_map(|&(a, b)| [a, b]).collect();
+    let salt = case.salt();
+    let mut keys: Vec<u64> = ties(salt).iter().flat_map(|&(a, b)| [a, b]).collect();
     let order = case.random.order();
-    case.lend_sound(slots, order, &[]);
+    let blank = case.contents_under(salt, order, &[]);
+    case.lend(slots, &blank);
     case.random.shuffle(&mut keys);
     for &key in &keys {
         exercise::insert(case, key, 0);

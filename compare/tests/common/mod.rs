@@ -1,25 +1,29 @@
 //! A table, and calls that it takes.
+#![allow(dead_code)]
 
 use compare::call::{Call, Place};
 use compare::list::List;
-use compare::tables::{listing_length, measured_image, measured_table, pages_length};
+use compare::tables::{image_of, listing_length, pages_length, sound_table};
 use reference::measure::Measure;
-use reference::Set;
+use reference::Contents;
 
 pub const KEYS: [u64; 5] = [3, 8, 20, 21, 40];
 
-/// Some of them measured, 21 with a correction below zero.
-fn set() -> Set {
+/// The table's salt; a key that is inserted is the same number.
+pub const SALT: u64 = 22;
+
+/// Some of the keys measured, 21 with a correction below zero.
+pub fn contents() -> Contents {
     let measured = [(3, 40_000, 5_000), (21, 26_500, -120)];
-    let mut set: Set = KEYS.map(|key| (key, Measure::NONE)).into();
+    let mut contents = Contents::unmeasured(3, &KEYS).salted(SALT);
     for (key, length, correction) in measured {
-        set.insert(key, Measure::new(length, correction));
+        contents.set.insert(key, Measure::new(length, correction));
     }
-    set
+    contents
 }
 
 pub fn table() -> Vec<u64> {
-    measured_table(7, 3, &set())
+    sound_table(7, &contents())
 }
 
 fn list() -> List {
@@ -32,12 +36,13 @@ fn list() -> List {
 
 /// One of each kind that is accepted, outputs longer than needed.
 pub fn accepted_calls() -> [Call; 14] {
-    let (image, room) = (measured_image(3, &set()), listing_length(3, &KEYS) + 4);
+    let (image, room) = (image_of(&contents()), listing_length(&contents()) + 4);
     let (place, measure) = (Place::WHOLE, Measure::new(26_500, 0));
     [
-        Call::SetUp { order: 9 },
+        Call::SetUp { order: 9, salt: 77 },
         Call::Build {
             order: 4,
+            salt: u64::MAX,
             list: list(),
         },
         Call::Insert {

@@ -128,7 +128,7 @@ fn print_pages(table: &[u64]) -> Result<(), Refusal> {
     Ok(())
 }
 
-/// Under a salt the same lasts have other ranks and slots: another table, another image. Whoever reads the image gets the salt along with them.
+/// Under a salt the same lasts have other ranks and slots: another table, another image. Whoever reads the image gets the salt with them.
 fn under_a_salt(table: &[u64]) -> Result<(), Refusal> {
     let mut salted = vec![0; btreap::table_words(SLOTS)];
     second_workshop(&mut salted, SALT)?;
