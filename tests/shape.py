@@ -23,9 +23,9 @@ def number(value, width):
     return value.to_bytes(width, "little")
 
 
-def before(key):
-    """Sorts keys so that each comes before all that it outranks."""
-    return (-priority(key), key)
+def before(salt):
+    """Sorts keys so that each comes before all that it outranks under the salt: of equal priorities the lesser key, whatever the salt."""
+    return lambda key: (-priority(key ^ salt), key)
 
 
 class Node:
@@ -33,11 +33,11 @@ class Node:
         self.key, self.left, self.right = key, left, right
 
 
-def treap(keys):
+def treap(keys, salt):
     if not keys:
         return None
-    root = min(keys, key=before)
-    return Node(root, treap([k for k in keys if k < root]), treap([k for k in keys if k > root]))
+    root = min(keys, key=before(salt))
+    return Node(root, treap([k for k in keys if k < root], salt), treap([k for k in keys if k > root], salt))
 
 
 def subtrees(node, path=()):
@@ -55,17 +55,17 @@ def keys_of(node):
 
 
 class Shape:
-    """An order and a set of keys; `measures` has a length and a correction for each key that is measured."""
+    """An order, a salt and a set of keys; `measures` has a length and a correction for each key that is measured."""
 
-    def __init__(self, order, keys, measures=None):
-        self.order, self.keys, self.measures = order, sorted(keys), measures or {}
+    def __init__(self, order, keys, measures=None, salt=0):
+        self.order, self.keys, self.measures, self.salt = order, sorted(keys), measures or {}, salt
         levels = [self.keys]
         while len(levels[-1]) > 1:
-            top = treap(levels[-1])
+            top = treap(levels[-1], salt)
             nodes = subtrees(top)
             levels.append([k for k in levels[-1] if k == top.key or len(keys_of(nodes[k][0])) >= order])
         self.levels = [set(level) for level in levels]
-        self.tree = treap(self.keys)
+        self.tree = treap(self.keys, salt)
         self.nodes = subtrees(self.tree)
         self.root = self.tree.key if self.tree else 0
         self.rank = {k: max(i for i, level in enumerate(self.levels) if k in level) for k in self.keys}
@@ -102,8 +102,12 @@ class Shape:
         length, correction = self.measures[key]
         return b"LM" + fields + number(length, 4) + number(correction + 5000, 2)
 
+    def header(self):
+        fields = number(self.order, 1) + number(len(self.keys), 2) + number(len(self.blocks), 2) + number(self.root, 8)
+        return b"LS" + fields + number(self.salt, 8) if self.salt else b"LH" + fields
+
     def image(self):
-        out = b"LH" + number(self.order, 1) + number(len(self.keys), 2) + number(len(self.blocks), 2) + number(self.root, 8)
+        out = self.header()
         for leader, level, held in self.blocks:
             out += b"LB" + number(leader, 8) + number(level, 2) + number(len(held), 2)
             for key in held:
@@ -115,7 +119,7 @@ def keys_ranked(ranking, candidates):
     """Keys that rise, the i-th of which stands in outranking order where `ranking` has i."""
     n = len(ranking)
     for chosen in itertools.combinations(candidates, n):
-        order = sorted(chosen, key=before)
+        order = sorted(chosen, key=before(0))
         if [chosen.index(k) + 1 for k in order] == list(ranking):
             return chosen
     raise SystemExit("no such keys among the candidates")
@@ -139,6 +143,26 @@ def many(number):
     ends = {keys[0]: (10000, -5000), keys[1]: (40000, 5000)}
     measures = {key: (10000 + 29 * i % 30001, 7 * i % 10001 - 5000) for i, key in enumerate(keys)}
     return keys, {**measures, **ends}
+
+
+# Two keys that have equal priorities under the salt of all ones. The lesser is the greater of the two without it.
+TIE_SALT = WORD - 1
+TIE = (0x055A050E17548921 ^ TIE_SALT, 0x08DFDFD4FFCCD72F ^ TIE_SALT)
+assert TIE[0] > TIE[1] and priority(TIE[0] ^ TIE_SALT) == priority(TIE[1] ^ TIE_SALT)
+
+
+def wrong_headers(keys):
+    """Images of these keys but for the mark or the salt, each with its name."""
+    plain, salted = Shape(3, keys).image(), Shape(3, keys, salt=77).image()
+    fields, records = plain[2:15], plain[15:]
+    return {
+        "salt_of_zero": b"LS" + fields + number(0, 8) + records,
+        "salt_left_out": b"LS" + fields + records,
+        "salt_left_over": b"LH" + fields + number(77, 8) + records,
+        "salt_cut_short": salted[:22],
+        "another_salt": salted[:15] + number(78, 8) + salted[23:],
+        "another_mark": b"LT" + salted[2:],
+    }
 
 
 def write_case(folder, name, image, text):

@@ -10,7 +10,7 @@ HERE = os.path.dirname(os.path.abspath(__file__))
 sys.dont_write_bytecode = True
 sys.path.insert(0, os.path.dirname(HERE))
 
-from shape import WORD, Shape, keys_at, keys_ranked, many, number, write_case  # noqa: E402
+from shape import TIE, TIE_SALT, WORD, Shape, keys_at, keys_ranked, many, number, write_case, wrong_headers  # noqa: E402
 
 
 def fill(order, n, b):
@@ -32,8 +32,8 @@ def case(name, image, text):
     write_case(HERE, name, image, text)
 
 
-def listed(name, order, keys, measures=None):
-    shape = Shape(order, keys, measures)
+def listed(name, order, keys, measures=None, salt=0):
+    shape = Shape(order, keys, measures, salt)
     case(name, shape.image(), listing(shape))
     return shape
 
@@ -70,6 +70,20 @@ def fills_of_several_blocks():
     assert listing(comb).startswith("order 20 keys 38 blocks 11 fill 9 ")
 
 
+def salted_cases():
+    """Images with the mark `LS`. The listing shows no salt, but goes by it."""
+    listed("no_keys_under_a_salt", 3, [], salt=1)
+    listed("lone_key_is_the_salt", 3, [5], salt=5)
+    keys = range(1, 21)
+    assert listing(listed("under_a_salt", 3, keys, {5: (26500, -120)}, 0x5EED)) != listing(Shape(3, keys))
+    listed("under_the_highest_bit", 4, keys, salt=WORD // 2)
+    tie = listed("tie_under_a_salt", 3, TIE, salt=TIE_SALT)
+    assert tie.root == min(TIE)
+    listed("thousand_keys_under_a_salt", 7, *many(1000), salt=many(1000)[0][500])
+    for name, image in wrong_headers(keys).items():
+        refused(name, image)
+
+
 def main():
     listed("example_a", 3, [])
     listed("example_b", 3, [5])
@@ -81,6 +95,7 @@ def main():
     case("thousand_and_one_keys", Shape(7, *many(1001)).image(), "refused 10\n")
     fills_of_several_blocks()
     measured_cases()
+    salted_cases()
     image = six.image()
     refused("no_bytes", b"")
     refused("cut_short", image[:-1])
@@ -96,8 +111,8 @@ def main():
     refused("blocks_exchanged", exchanged)
     refused("order_two", chain.image()[:2] + b"\2" + chain.image()[3:])
     refused("key_of_zero", b"LH\3\1\0\1\0" + bytes(8) + b"LB" + bytes(8) + b"\0\0\1\0LN" + bytes(24) + b"\0\0\1\0")
-    refused("longest_input", bytes(50015))
-    case("too_long", bytes(50016), "too long\n")
+    refused("longest_input", bytes(50023))
+    case("too_long", bytes(50024), "too long\n")
 
 
 if __name__ == "__main__":

@@ -10,7 +10,7 @@ HERE = os.path.dirname(os.path.abspath(__file__))
 sys.dont_write_bytecode = True
 sys.path.insert(0, os.path.dirname(HERE))
 
-from shape import WORD, Shape, keys_ranked, many, number, priority, write_case  # noqa: E402
+from shape import TIE, TIE_SALT, WORD, Shape, keys_ranked, many, number, priority, write_case, wrong_headers  # noqa: E402
 
 
 def size(measure):
@@ -40,8 +40,8 @@ def case(name, image, text):
     write_case(HERE, name, image, text)
 
 
-def printed(name, order, keys, measures=None):
-    shape = Shape(order, keys, measures)
+def printed(name, order, keys, measures=None, salt=0):
+    shape = Shape(order, keys, measures, salt)
     case(name, shape.image(), pages(shape))
     return shape
 
@@ -86,6 +86,17 @@ def sizes():
     printed("sizes", 5, range(1, len(lasts) + 3), measures)
 
 
+def salted_cases():
+    """Images with the mark `LS`. The pages show no salt, but go by it."""
+    printed("no_keys_under_a_salt", 3, [], salt=1)
+    keys, measures = some_measured(60)
+    assert pages(printed("under_a_salt", 3, keys, measures, 0x5EED)) != pages(Shape(3, keys, measures))
+    printed("key_is_the_salt", 3, keys, measures, keys[7])
+    printed("tie_under_a_salt", 3, TIE, salt=TIE_SALT)
+    for name, image in wrong_headers(range(1, 21)).items():
+        refused(name, image)
+
+
 def main():
     printed("example_a", 3, [])
     printed("example_b", 3, [5])
@@ -96,14 +107,15 @@ def main():
     printed("counts_of_three_digits", 255, chain(210))
     numbers_of_keys()
     sizes()
+    salted_cases()
     image = printed("measured_key", 3, [5], {5: (26500, -120)}).image()
     refused("no_bytes", b"")
     refused("cut_short", image[:-1])
     refused("trailing_byte", image + b"\0")
     refused("bit_flipped", image[:40] + bytes([image[40] ^ 1]) + image[41:])
     refused("measure_too_long", image[:-6] + number(40001, 4) + number(5000, 2))
-    refused("longest_input", bytes(50015))
-    case("too_long", bytes(50016), "too long\n")
+    refused("longest_input", bytes(50023))
+    case("too_long", bytes(50024), "too long\n")
 
 
 if __name__ == "__main__":
