@@ -7,6 +7,9 @@ import os
 
 WORD = 2 ** 64
 
+# The programs read so many bytes at most.
+LONGEST_INPUT = 50023
+
 E = [1442695040888963407]
 while len(E) < 2048:
     E.append((6364136223846793005 * E[-1] + 1442695040888963407) % WORD)

@@ -2,21 +2,24 @@
 //! do the same on it, or their times would not be times of one job.
 
 use crate::batch::{for_fast, for_library};
-use crate::case::{Case, ORDER};
+use crate::case::ORDER;
 use crate::load;
 use crate::measures::Measures;
 use crate::points;
+use crate::rows::{build, build_fast, Lent};
 use btreap::{Found, Measure, Refusal, Size};
+use reference::load::NO_SALT;
 use reference::{fast, measure};
 
 /// Ends the run where a table, an image, a listing, a page, a question or a reply differs.
-pub fn check(case: &Case, table: &[u64], image: &[u8]) {
+pub fn check(lent: &Lent) {
+    let (case, table, image) = (lent.case, &lent.table[..], &lent.image[..]);
     let mut other = vec![0; table.len()];
-    check_build(case, &Measures::of(case.keys.len(), 1), &mut other);
-    check_build(case, &case.measures, &mut other);
+    check_build(lent, &Measures::of(case.keys.len(), 1), &mut other);
+    check_build(lent, &case.measures, &mut other);
     assert!(other == table, "build differs");
     assert!(output(image.len(), |out| fast::write_image(table, out).length) == image);
-    fast::set_up(&mut other, ORDER);
+    fast::set_up(&mut other, ORDER, !lent.salt);
     fast::read_image(&mut other, image);
     assert!(other == table, "read differs");
     let room = 100 * (case.keys.len() + 1);
@@ -46,7 +49,8 @@ pub fn check_load() {
         assert!(one == other, "load differs");
         let keys: Vec<u64> = load::by_set(count).into_keys().collect();
         let zeros = vec![0; keys.len()];
-        fast::build(&mut other, ORDER, &keys, &zeros, &vec![0; keys.len()]);
+        let none = vec![0; keys.len()];
+        fast::build(&mut other, ORDER, NO_SALT, &keys, &zeros, &none);
         assert!(one == other, "the set differs");
         if count < load::COUNT {
             load::by_separate_calls(&mut other, count);
@@ -75,15 +79,11 @@ pub fn check_points() {
 
 /// Both build the same table of the case's keys with these measures, which the second
 /// program leaves in `table`.
-fn check_build(case: &Case, measures: &Measures, table: &mut [u64]) {
-    let Measures {
-        lengths,
-        corrections,
-    } = measures;
+fn check_build(lent: &Lent, measures: &Measures, table: &mut [u64]) {
+    let (salt, keys) = (lent.salt, &lent.case.keys);
     let mut one = table.to_vec();
-    let reply = btreap::build_measured(&mut one, ORDER, &case.keys, lengths, corrections);
-    assert_eq!(reply, Ok(()));
-    fast::build(table, ORDER, &case.keys, lengths, corrections);
+    assert_eq!(build(&mut one, salt, keys, measures), Ok(()));
+    build_fast(table, salt, keys, measures);
     assert!(one == table, "build differs");
 }
 

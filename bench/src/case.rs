@@ -68,7 +68,7 @@ pub fn all() -> Vec<Case> {
 }
 
 /// Keys drawn at random.
-fn random(slots: usize, number: usize) -> Case {
+pub fn random(slots: usize, number: usize) -> Case {
     let mut state = number as u64;
     let (keys, absent) = distinct(number, || splitmix(&mut state).max(1));
     let held = (0..TURNS).map(|turn| keys[turn * number / TURNS]).collect();

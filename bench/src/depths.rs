@@ -3,6 +3,7 @@
 use crate::black_box::black_box;
 use crate::case::ORDER;
 use crate::measures::Measures;
+use crate::salts::SALT;
 use crate::stack::depth;
 use btreap::{Place, Question, Refusal, LONGEST_IMAGE, MOST_SLOTS};
 use reference::random::splitmix;
@@ -28,8 +29,8 @@ pub fn print() {
     }
 }
 
-/// Each call's depth on a table that the keys fill, all of them measured, so that its
-/// image is as long as it can be. Insert follows delete, so that there is room.
+/// Each call's depth on a table that the keys fill, all of them measured and under a salt,
+/// so that its image is as long as it can be. Insert follows delete, so that there is room.
 fn depths(keys: &[u64]) -> Vec<(&'static str, usize)> {
     let slots = keys.len();
     let (key, measures) = (keys[slots / 2], Measures::of(slots, 1));
@@ -43,10 +44,17 @@ fn depths(keys: &[u64]) -> Vec<(&'static str, usize)> {
     let mut depths = vec![];
     let mut depth_of = |call, job: &mut dyn FnMut()| depths.push((call, depth(job)));
     depth_of("(no call)", &mut || ());
-    depth_of("set_up", &mut || done(btreap::set_up(t, ORDER)));
+    depth_of("set_up", &mut || done(btreap::set_up(t, ORDER, SALT)));
     depth_of("load", &mut || done(btreap::load(t, ORDER, 1, LOAD)));
     depth_of("build", &mut || {
-        done(btreap::build_measured(t, ORDER, keys, lengths, corrections))
+        done(btreap::build_measured(
+            t,
+            ORDER,
+            SALT,
+            keys,
+            lengths,
+            corrections,
+        ))
     });
     depth_of("delete", &mut || done(btreap::delete(t, key)));
     depth_of("insert", &mut || {

@@ -8,7 +8,7 @@ use crate::plain::{Plain, Set};
 use crate::timing::least_of_rounds;
 use btreap::Measure;
 use reference::fast;
-use reference::load::{operations, Operation};
+use reference::load::{operations, Operation, NO_SALT};
 
 pub const SLOTS: usize = 4096;
 pub const COUNT: u16 = u16::MAX;
@@ -52,7 +52,7 @@ pub fn by_library(table: &mut [u64], count: u16) {
 
 /// A set-up, then a call for each operation, whatever it replies.
 pub fn by_separate_calls(table: &mut [u64], count: u16) {
-    expect(0, refusal(btreap::set_up(table, ORDER)));
+    expect(0, refusal(btreap::set_up(table, ORDER, NO_SALT)));
     for operation in operations(black_box(SEED), count) {
         match operation {
             Operation::Insert(key) => _ = black_box(btreap::insert(table, key)),

@@ -14,6 +14,7 @@ mod plain;
 mod points;
 mod report;
 mod rows;
+mod salts;
 mod stack;
 mod timing;
 

@@ -6,6 +6,7 @@ use crate::case::{self, Case, BATCH, ORDER};
 use crate::load;
 use crate::points;
 use crate::rows::{Lent, Row};
+use crate::salts::{self, NO_SALT};
 use crate::timing::least;
 
 /// Measures every row and prints it.
@@ -18,6 +19,7 @@ pub fn print() {
         "(c) a `BTreeMap` from keys to measures, serialised whole and compared with a stored copy."
     );
     case::all().iter().for_each(print_case);
+    print_salts();
     print_load();
     print_points();
 }
@@ -25,8 +27,8 @@ pub fn print() {
 /// The rows of a case. Reading the words is one job for all of them, so that its
 /// least time over all rows is taken.
 fn print_case(case: &Case) {
-    let lent = Lent::new(case);
-    agree::check(case, &lent.table, &lent.image);
+    let lent = Lent::new(case, NO_SALT);
+    agree::check(&lent);
     let measure = |row: Row| (row.call, least(row.candidates));
     let rows: Vec<(String, [f64; 4])> = lent.rows().into_iter().map(measure).collect();
     let words = rows
@@ -70,6 +72,21 @@ fn print_one_by_one(batch: f64, one_by_one: f64) {
 fn time_of(rows: &[(String, [f64; 4])], call: &str) -> f64 {
     let row = rows.iter().find(|row| row.0 == call);
     row.expect("there is such a row").1[0]
+}
+
+/// The library's calls without a salt and under one.
+fn print_salts() {
+    let case = salts::case();
+    let tables = salts::tables(&case);
+    tables.iter().for_each(agree::check);
+    println!("\n### {}, without a salt and under one\n", case.name);
+    println!("| call | µs without | µs under a salt | × |");
+    println!("|---|---:|---:|---:|");
+    for (call, times) in salts::times(&tables) {
+        let [without, under] = times.map(|time| figures(time / 1000.0));
+        let ratio = figures(times[1] / times[0]);
+        println!("| {call} | {without} | {under} | {ratio} |");
+    }
 }
 
 /// The load, whose times are in milliseconds, and the candidates for it.

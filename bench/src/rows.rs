@@ -20,10 +20,11 @@ pub struct Row<'a> {
     pub candidates: [Candidate<'a>; 4],
 }
 
-/// A case with the sound table for its keys, its image and its listing's length; and
-/// measures with which every key is measured.
+/// A case with the sound table for its keys under a salt, its image and its listing's
+/// length; and measures with which every key is measured.
 pub struct Lent<'a> {
     pub case: &'a Case,
+    pub salt: u64,
     pub table: Vec<u64>,
     pub image: Vec<u8>,
     text: usize,
@@ -31,19 +32,19 @@ pub struct Lent<'a> {
 }
 
 /// The library's build of keys with measures.
-fn build(table: &mut [u64], keys: &[u64], measures: &Measures) -> Result<(), Refusal> {
-    btreap::build_measured(table, ORDER, keys, &measures.lengths, &measures.corrections)
+pub fn build(t: &mut [u64], salt: u64, keys: &[u64], m: &Measures) -> Result<(), Refusal> {
+    btreap::build_measured(t, ORDER, salt, keys, &m.lengths, &m.corrections)
 }
 
 /// The same in the second program's fast form.
-fn build_fast(table: &mut [u64], keys: &[u64], measures: &Measures) -> PlainReply {
-    fast::build(table, ORDER, keys, &measures.lengths, &measures.corrections)
+pub fn build_fast(t: &mut [u64], salt: u64, keys: &[u64], m: &Measures) -> PlainReply {
+    fast::build(t, ORDER, salt, keys, &m.lengths, &m.corrections)
 }
 
 impl<'a> Lent<'a> {
-    pub fn new(case: &'a Case) -> Lent<'a> {
+    pub fn new(case: &'a Case, salt: u64) -> Lent<'a> {
         let mut table = vec![0; btreap::table_words(case.slots)];
-        build(&mut table, &case.keys, &case.measures).expect("keys rise and have room");
+        build(&mut table, salt, &case.keys, &case.measures).expect("keys rise and have room");
         let mut image = vec![0; btreap::LONGEST_IMAGE];
         let length = btreap::write(&table, &mut image).expect("the table is sound");
         image.truncate(length);
@@ -51,6 +52,7 @@ impl<'a> Lent<'a> {
             .expect("the image is right");
         Lent {
             case,
+            salt,
             table,
             image,
             text,
@@ -100,13 +102,14 @@ impl<'a> Lent<'a> {
 
     /// (c): an empty set takes the set's place.
     fn set_up(&'a self) -> Row<'a> {
+        let salt = self.salt;
         self.row(
             "set_up",
-            over(&self.table, |t, _| {
-                expect(0, refusal(btreap::set_up(t, ORDER)))
+            over(&self.table, move |t, _| {
+                expect(0, refusal(btreap::set_up(t, ORDER, salt)))
             }),
-            over(&self.table, |t, _| {
-                expect(0, fast::set_up(t, ORDER).refusal)
+            over(&self.table, move |t, _| {
+                expect(0, fast::set_up(t, ORDER, salt).refusal)
             }),
             asking(Plain::new(Set::new()), |plain, _| {
                 plain.set = black_box(Set::new());
@@ -117,14 +120,14 @@ impl<'a> Lent<'a> {
 
     /// (c): a set is made of the lists; dropping the old one is not timed.
     fn build(&'a self, call: &str, measures: &'a Measures) -> Row<'a> {
-        let keys = &self.case.keys;
+        let (salt, keys) = (self.salt, &self.case.keys);
         self.row(
             call,
-            over(&self.table, |t, _| {
-                expect(0, refusal(build(t, keys, measures)))
+            over(&self.table, move |t, _| {
+                expect(0, refusal(build(t, salt, keys, measures)))
             }),
-            over(&self.table, |t, _| {
-                expect(0, build_fast(t, keys, measures).refusal)
+            over(&self.table, move |t, _| {
+                expect(0, build_fast(t, salt, keys, measures).refusal)
             }),
             candidate(
                 Plain::new(self.case.set_with(measures)),

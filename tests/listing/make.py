@@ -10,7 +10,7 @@ HERE = os.path.dirname(os.path.abspath(__file__))
 sys.dont_write_bytecode = True
 sys.path.insert(0, os.path.dirname(HERE))
 
-from shape import TIE, TIE_SALT, WORD, Shape, keys_at, keys_ranked, many, number, write_case, wrong_headers  # noqa: E402
+from shape import LONGEST_INPUT, TIE, TIE_SALT, WORD, Shape, keys_at, keys_ranked, many, number, write_case, wrong_headers  # noqa: E402
 
 
 def fill(order, n, b):
@@ -111,8 +111,8 @@ def main():
     refused("blocks_exchanged", exchanged)
     refused("order_two", chain.image()[:2] + b"\2" + chain.image()[3:])
     refused("key_of_zero", b"LH\3\1\0\1\0" + bytes(8) + b"LB" + bytes(8) + b"\0\0\1\0LN" + bytes(24) + b"\0\0\1\0")
-    refused("longest_input", bytes(50023))
-    case("too_long", bytes(50024), "too long\n")
+    refused("longest_input", bytes(LONGEST_INPUT))
+    case("too_long", bytes(LONGEST_INPUT + 1), "too long\n")
 
 
 if __name__ == "__main__":

@@ -10,7 +10,7 @@ HERE = os.path.dirname(os.path.abspath(__file__))
 sys.dont_write_bytecode = True
 sys.path.insert(0, os.path.dirname(HERE))
 
-from shape import TIE, TIE_SALT, WORD, Shape, keys_ranked, many, number, priority, write_case, wrong_headers  # noqa: E402
+from shape import LONGEST_INPUT, TIE, TIE_SALT, WORD, Shape, keys_ranked, many, number, priority, write_case, wrong_headers  # noqa: E402
 
 
 def size(measure):
@@ -114,8 +114,8 @@ def main():
     refused("trailing_byte", image + b"\0")
     refused("bit_flipped", image[:40] + bytes([image[40] ^ 1]) + image[41:])
     refused("measure_too_long", image[:-6] + number(40001, 4) + number(5000, 2))
-    refused("longest_input", bytes(50023))
-    case("too_long", bytes(50024), "too long\n")
+    refused("longest_input", bytes(LONGEST_INPUT))
+    case("too_long", bytes(LONGEST_INPUT + 1), "too long\n")
 
 
 if __name__ == "__main__":

@@ -208,24 +208,26 @@ fn blocks_told(case: &mut Case, names: &Names, contents: &Contents, blocks: &[Bl
     let room = image_of(contents).len();
     case.call_and_check(Call::Write { room }, |outcome| {
         let given = blocks_in(&outcome.bytes);
-        (given != due).then(|| format!("blocks {given:?}, not {due:?}"))
+        (given.as_ref() != Some(&due)).then(|| format!("blocks {given:?}, not {due:?}"))
     });
 }
 
-/// The blocks of an image, none of whose keys is measured: leader, level, keys.
-fn blocks_in(image: &[u8]) -> Vec<(u64, u64, Vec<u64>)> {
+/// The blocks of an image, none of whose keys is measured: leader, level, keys. None where
+/// the bytes are not cut so.
+fn blocks_in(image: &[u8]) -> Option<Vec<(u64, u64, Vec<u64>)>> {
     let eight = |bytes: &[u8]| u64::from_le_bytes(bytes[..8].try_into().expect("eight"));
+    let two = |bytes: &[u8]| u16::from_le_bytes(bytes[..2].try_into().expect("two"));
     let mut blocks = vec![];
-    let mut rest = &image[header_length(image)..];
+    let mut rest = image.get(header_length(image)..)?;
     while !rest.is_empty() {
-        let level = u64::from(rest[10]) + 256 * u64::from(rest[11]);
-        let number = usize::from(rest[12]) + 256 * usize::from(rest[13]);
-        let (nodes, after) = rest[BLOCK..].split_at(NODE * number);
-        let keys = nodes.chunks(NODE).map(|node| eight(&node[2..])).collect();
-        blocks.push((eight(&rest[2..]), level, keys));
-        rest = after;
+        let block = rest.get(..BLOCK)?;
+        let end = BLOCK + NODE * usize::from(two(&block[12..]));
+        let nodes = rest.get(BLOCK..end)?.chunks(NODE);
+        let keys = nodes.map(|node| eight(&node[2..])).collect();
+        blocks.push((eight(&block[2..]), two(&block[10..]).into(), keys));
+        rest = &rest[end..];
     }
-    blocks
+    Some(blocks)
 }
 
 /// The listing shows the fill.
