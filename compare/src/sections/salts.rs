@@ -11,7 +11,7 @@ use crate::keys::parts;
 use crate::measures::right;
 use crate::salts::{contents_of, for_keys, ENDS};
 use crate::tables::{
-    contents_in, image_of, keys_in, slot_start, sound_table, table_length, HEADER,
+    contents_in, image_of, keys_in, slot_start, sound_table, table_length, HEADER, SALTED_HEADER,
 };
 use reference::measure::Measure;
 use reference::priority::priority;
@@ -50,7 +50,7 @@ fn run(tally: &mut Tally) {
 
 /// A salt that is not zero.
 fn some_salt(case: &mut Case) -> u64 {
-    case.salt().max(2)
+    case.salt().max(1)
 }
 
 // ---------------------------------------------------------------------------
@@ -142,23 +142,20 @@ fn damaged_headers(case: &mut Case, number: usize) {
     exercise::lend_keys(case, number.max(1), order, &keys);
     let (with, without) = (image_of(&contents), image_of(&contents.clone().salted(0)));
     let bytes = salt.to_le_bytes();
-    for (mark, salt, records) in [
-        (b"LS", &[0; 8][..], &without),
-        (b"LS", &[], &without),
-        (b"LS", &bytes[..4], &without),
-        (b"LH", &bytes, &without),
-        (b"LH", &[0; 8], &without),
-        (b"LT", &bytes, &without),
-        (b"lS", &bytes, &without),
-        (b"SL", &bytes, &without),
-        (b"LB", &bytes, &without),
-        (b"LN", &bytes, &without),
-        (b"LM", &bytes, &without),
+    for (mark, salt) in [
+        (b"LS", &[0; 8][..]),
+        (b"LS", &[]),
+        (b"LS", &bytes[..4]),
+        (b"LH", &bytes),
+        (b"LH", &[0; 8]),
     ] {
-        let image = [mark, &records[2..HEADER], salt, &records[HEADER..]].concat();
-        read_or_not(case, image, 6);
+        let (fields, records) = without[2..].split_at(HEADER - 2);
+        read_or_not(case, [mark, fields, salt, records].concat(), 6);
     }
-    (0..HEADER + 8).for_each(|length| read_or_not(case, with[..length].to_vec(), 6));
+    for mark in [b"LH", b"LT", b"lS", b"SL", b"LB", b"LN", b"LM"] {
+        read_or_not(case, [mark, &with[2..]].concat(), 6);
+    }
+    (0..SALTED_HEADER).for_each(|length| read_or_not(case, with[..length].to_vec(), 6));
     let cut = HEADER + case.random.below(8);
     read_or_not(case, [&with[..cut], &with[cut + 1..]].concat(), 6);
     read_or_not(case, [&with[..cut], &[7], &with[cut..]].concat(), 6);
@@ -169,7 +166,7 @@ fn other_salts(case: &mut Case, contents: &Contents, image: &[u8]) {
     let bits = (0..64).step_by(9).map(|bit| contents.salt ^ 1 << bit);
     for salt in bits.chain(ENDS) {
         let mut changed = image.to_vec();
-        changed[HEADER..HEADER + 8].copy_from_slice(&salt.to_le_bytes());
+        changed[HEADER..SALTED_HEADER].copy_from_slice(&salt.to_le_bytes());
         let due = image_of(&contents.clone().salted(salt));
         let refusal = if changed == due { 0 } else { 6 };
         read_or_not(case, changed, refusal);
@@ -191,7 +188,7 @@ fn images_tell_salts_apart(case: &mut Case) {
                             (*image == outcome.bytes) == (*other == contents)
                         };
                         let told = seen.iter().all(agree);
-                        (!told).then(|| "images agree where contents do not".to_string())
+                        (!told).then(|| "images agree otherwise than contents".to_string())
                     });
                     seen.push((contents, written.bytes));
                 }
