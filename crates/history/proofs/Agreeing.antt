@@ -12,7 +12,7 @@ use Rattle.lists.proofs.Membership.{all-of-members}
 use Rattle.lists.proofs.Rising.{rising-unique}
 use Rattle.lists.proofs.Start.{starts-with}
 use Rattle.table.specs.Layout.{mostSlots}
-use Rattle.table.specs.Contents.{Contents, Valid, keysIn, measureIn}
+use Rattle.table.specs.Contents.{Contents, Valid, keysIn}
 use Rattle.table.proofs.Entries.{entryAt, entries-by-keys}
 use Rattle.image.specs.Image.{imageOf}
 use Rattle.image.proofs.Reading.{image-unique}

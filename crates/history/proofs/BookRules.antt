@@ -2,7 +2,7 @@
 -- from. Assumes nothing.
 use mathlib.Core.Bool.{false, cond, not, _&&_}
 use mathlib.Core.List.{List}
-use mathlib.Core.Path.{_≡_, sym, ap, _∙_}
+use mathlib.Core.Path.{_≡_, sym, ap, _∙_, refl}
 use Prim.Native.Nat.{ℕ, _<_}
 use lib.Dec.{eqb}
 use lib.IntN.{ℤ, pos}
@@ -58,6 +58,8 @@ book-rules =
       joins = λ key other measure book. joined-members (record { key = key; measure = measure }) other (book .entries);
       joins-measures = joins-measured;
       leaves = λ key other book. left-members key other (book .entries);
+      joins-keeps = λ key measure book. (refl, refl);
+      leaves-keeps = λ key book. (refl, refl);
       leaves-measures = leaves-measured;
       reads = λ bytes lent passed. is-image-says bytes passed lent;
       read-back = λ c valid. (image-passes c valid, read-of-image c valid);

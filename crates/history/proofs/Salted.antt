@@ -10,19 +10,20 @@ use lib.Dec.{eqb, ltb}
 use lib.ListN.{length, take, drop, replicate}
 use borrow.Author.Tests.{le-ltb, eq-eqb, ne-eqb}
 use Rattle.lists.proofs.Tests.{by-test, true-or-false}
-use Rattle.measure.specs.Measure.{storedCorrection}
+use Rattle.measure.specs.Measure.{unmeasured, storedCorrection}
 use Rattle.priority.specs.Priority.{priorityOf, priorityWith, homeOf}
-use Rattle.treap.specs.Treap.{outranks, top, leftLink, rightLink}
-use Rattle.treap.specs.Levels.{rank, count, leader}
+use Rattle.treap.specs.Treap.{outranks, outranksRest, top, treap, leftLink, rightLink}
+use Rattle.treap.specs.Levels.{nextLevel, rank, count, leader}
+use Rattle.treap.specs.Blocks.{rootRank, rootBlock, blocks}
 use Rattle.treap.specs.Slots.{slotsOf}
-use Rattle.treap.specs.Image.{littleEndian, headerRecord, image}
+use Rattle.treap.specs.Image.{littleEndian, headerRecord, blockRecord, nodeFields, nodeRecord, nodeOf, blockPart, image}
 use Rattle.table.specs.Layout.{slotWords}
 use Rattle.table.specs.Contents.{Entry, Contents, keysIn, measureIn}
 use Rattle.table.specs.Table.{homeIn, header, slotOf, fresh}
 use Rattle.image.specs.Layout.{saltBytes, saltAt}
 use Rattle.image.specs.Image.{saltedMark, salted, imageOf, isSalted, saltShown, readImage, isImage}
 use Rattle.image.proofs.Judging.{is-image-exactly}
-use Rattle.history.specs.Salts.{saltless, Salts}
+use Rattle.history.specs.Salts.{saltless, saltedB, Salts}
 
 joined : (salt k : ℕ) → priorityWith salt k ≡ priorityOf (bitXor k salt)
 unfolding priorityWith
@@ -90,6 +91,10 @@ after-root : (c : Contents) → c .salt ≢ 0 → take saltBytes (drop saltAt (i
 unfolding imageOf salted image headerRecord
 after-root c d = rw (ne-eqb (c .salt) 0 d)
 
+worked : imageOf (record { order = 3; salt = 1; entries = record { key = 5; measure = unmeasured } ∷ [] }) ≡ saltedB
+unfolding imageOf salted image headerRecord blockRecord nodeFields nodeRecord nodeOf blockPart blocks rootBlock rootRank top treap outranksRest leftLink rightLink rank count nextLevel storedCorrection flatMap
+worked = refl
+
 -- the image of contents without a salt has none
 unsalted : (c : Contents) → c .salt ≡ 0 → isSalted (imageOf c) ≡ false
 unfolding imageOf salted image headerRecord isSalted
@@ -124,6 +129,7 @@ salts-hold =
       zero-image = zero-image;
       opens = opens;
       after-root = after-root;
+      worked = worked;
       zero-refused = zero-refused;
       unsalted-read = unsalted-read;
     }

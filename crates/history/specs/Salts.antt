@@ -7,7 +7,7 @@ use Prim.Native.Nat.{ℕ}
 use lib.Bits.{bitXor}
 use lib.Dec.{eqb, ltb}
 use lib.ListN.{length, take, drop, replicate}
-use Rattle.measure.specs.Measure.{storedCorrection}
+use Rattle.measure.specs.Measure.{unmeasured, storedCorrection}
 use Rattle.priority.specs.Priority.{priorityOf, priorityWith, homeOf}
 use Rattle.treap.specs.Treap.{outranks, top, leftLink, rightLink}
 use Rattle.treap.specs.Levels.{rank, count, leader}
@@ -22,6 +22,13 @@ use Rattle.image.specs.Image.{saltedMark, imageOf, isSalted, saltShown, readIma
 -- An order and a set with salt zero.
 abbrev pub saltless : ℕ → List Entry → Contents
 saltless order entries = record { order = order; salt = 0; entries = entries }
+
+-- The image of example B under salt 1: the header, with the salt last, the block and its key.
+abbrev pub saltedB : List ℕ
+saltedB =
+    (76 ∷ 83 ∷ 3 ∷ 1 ∷ 0 ∷ 1 ∷ 0 ∷ 5 ∷ 0 ∷ 0 ∷ 0 ∷ 0 ∷ 0 ∷ 0 ∷ 0 ∷ 1 ∷ 0 ∷ 0 ∷ 0 ∷ 0 ∷ 0 ∷ 0 ∷ 0 ∷ [])
+    ++ (76 ∷ 66 ∷ 5 ∷ 0 ∷ 0 ∷ 0 ∷ 0 ∷ 0 ∷ 0 ∷ 0 ∷ 0 ∷ 0 ∷ 1 ∷ 0 ∷ [])
+    ++ (76 ∷ 78 ∷ 5 ∷ 0 ∷ 0 ∷ 0 ∷ 0 ∷ 0 ∷ 0 ∷ 0 ∷ 0 ∷ 0 ∷ 0 ∷ 0 ∷ 0 ∷ 0 ∷ 0 ∷ 0 ∷ 0 ∷ 0 ∷ 0 ∷ 0 ∷ 0 ∷ 0 ∷ 0 ∷ 0 ∷ 0 ∷ 0 ∷ 1 ∷ 0 ∷ [])
 
 pub record Salts : Type 0 where
   -- "The priority of k, in its home too, becomes P of the exclusive or of k and the salt": where k is the salt itself, P(0); with salt zero, P(k)
@@ -58,6 +65,8 @@ pub record Salts : Type 0 where
   -- "an image with salt other than zero opens with `LS`", and has the salt's eight bytes from byte 15 on, "after the root key"
   pub opens : (c : Contents) → c .salt ≢ 0 → take 2 (imageOf c) ≡ saltedMark
   pub after-root : (c : Contents) → c .salt ≢ 0 → take saltBytes (drop saltAt (imageOf c)) ≡ littleEndian saltBytes (c .salt)
+  -- document 01's example B, key 5 in order 3, under salt 1
+  pub worked : imageOf (record { order = 3; salt = 1; entries = record { key = 5; measure = unmeasured } ∷ [] }) ≡ saltedB
   -- "`LS` with zero gives 6"
   pub zero-refused : (bytes : List ℕ) → isSalted bytes ≡ true → saltShown bytes ≡ 0 → isImage bytes ≡ false
   -- an image that opens otherwise is read with salt zero

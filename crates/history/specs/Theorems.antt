@@ -168,6 +168,10 @@ pub record BookRules : Type 0 where
   pub leaves : (key other : ℕ) (book : Contents) → member other (keysIn (withoutKey key book)) ≡ (not (eqb other key) && member other (keysIn book))
   pub leaves-measures : (key other : ℕ) (book : Contents)
       → measureIn (withoutKey key book .entries) other ≡ cond (eqb other key) unmeasured (measureIn (book .entries) other)
+  -- neither changes order or salt: "the book also keeps the salt, as the calls give it" (02, N9)
+  pub joins-keeps : (key : ℕ) (measure : Measure) (book : Contents)
+      → (withKey key measure book .order ≡ book .order) × (withKey key measure book .salt ≡ book .salt)
+  pub leaves-keeps : (key : ℕ) (book : Contents) → (withoutKey key book .order ≡ book .order) × (withoutKey key book .salt ≡ book .salt)
   -- "the order and set whose image the bytes are", with their salt, where 6 does not apply
   pub reads : (bytes : List ℕ) → All IsByte bytes → isImage bytes ≡ true → Valid mostSlots (readImage bytes) × (bytes ≡ imageOf (readImage bytes))
   -- 6 does not apply to an image "that the writer makes for any order and any set of at most 4,096 keys", and that order, salt and set are read

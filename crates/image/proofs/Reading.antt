@@ -27,7 +27,7 @@ use Rattle.table.proofs.Entries.{found-right, entryAt, entries-by-keys, sorted-
 use Rattle.image.specs.Layout.{headBytes, blockBytes, orderAt, blocksAt, heldAt}
 use Rattle.image.specs.Image.{imageOf, headerSpan, saltShown, fieldAt, nodeSpan, entryShown, nodeEntries, nodesSpan, blockEntries, readImage}
 use Rattle.image.proofs.Records.{header-order, header-blocks, header-span, header-salt, header-dropped, block-held, block-dropped, node-length, node-span, node-shown}
-use Rattle.image.proofs.Lengths.{image-is, blocks-fit}
+use Rattle.image.proofs.Lengths.{image-is, image-length, blocks-fit}
 
 -- A block whose records show its keys.
 pub record Readable (b : Block) : Type 0 where
@@ -143,7 +143,7 @@ module _ (c : Contents) (valid : Valid mostSlots c) where
       bs (all-both (λ b. length (b .held) ≤ length (flatMap (λ d. d .held) bs)) (Holds (c .order) (priorityIn c) (keysIn c) wide (valid .keys-rise)) bs (length-flatMap-part (λ d. d .held) bs) (blocks-hold (c .order) (priorityIn c) (keysIn c) wide (valid .keys-rise)))
 
   -- the header's fields, and what follows the header
-  order-read : fieldAt orderAt orderBytes (imageOf c) ≡ c .order
+  pub order-read : fieldAt orderAt orderBytes (imageOf c) ≡ c .order
   order-read =
       let bs = blocks (c .order) (priorityIn c) (keysIn c) in
       ap (fieldAt orderAt orderBytes) (image-is c)
@@ -167,6 +167,9 @@ module _ (c : Contents) (valid : Valid mostSlots c) where
       let bs = blocks (c .order) (priorityIn c) (keysIn c) in
       ap headerSpan (image-is c)
       ∙ header-span (c .salt) (c .order) (length (keysIn c)) (length bs) (top (priorityIn c) (keysIn c)) (flatMap (blockPart (c .order) (priorityIn c) (measureIn (c .entries)) (keysIn c)) bs)
+
+  pub header-inside : headerSpan (imageOf c) ≤ length (imageOf c)
+  header-inside = omega (arith, span-read, image-length c valid)
 
   pub parts-read : drop (headerSpan (imageOf c)) (imageOf c) ≡ flatMap (blockPart (c .order) (priorityIn c) (measureIn (c .entries)) (keysIn c)) (blocks (c .order) (priorityIn c) (keysIn c))
   parts-read =

@@ -1,6 +1,6 @@
 -- The image's records: how long each is, that it is made of bytes, and what stands in the fields that a reader needs. Assumes of a
 -- number, where it says so, that it fits its field.
-use mathlib.Core.Bool.{false}
+use mathlib.Core.Bool.{true, false}
 use mathlib.Core.List.{List, _++_}
 use mathlib.Core.Path.{_≡_, refl, sym, ap, _∙_}
 use Prim.Native.Nat.{ℕ, _+_, _^_, _<_, _≤_}
@@ -63,6 +63,19 @@ module _ (salt order n b root : ℕ) where
 
   pub header-dropped : (rest : List ℕ) → drop (headerSpan (head ++ rest)) (head ++ rest) ≡ rest
   header-dropped rest = ap (λ (k : ℕ). drop k (head ++ rest)) (header-span rest) ∙ drop-at head rest (headBytes salt) header-length
+
+-- what its mark says of any bytes
+module _ (bytes : List ℕ) where
+  pub span-salted : isSalted bytes ≡ true → headerSpan bytes ≡ headerBytes + saltBytes
+  unfolding headerSpan
+  span-salted e = rw e
+
+  pub span-unsalted : isSalted bytes ≡ false → headerSpan bytes ≡ headerBytes
+  unfolding headerSpan
+  span-unsalted e = rw e
+
+  pub header-within : headerBytes ≤ headerSpan bytes
+  header-within = by-test (isSalted bytes) (λ e. omega (arith, span-salted e)) (λ e. omega (arith, span-unsalted e))
 
 -- ---- a block's record
 module _ (leader level n : ℕ) where
@@ -128,7 +141,7 @@ record-bytes order n b root =
     (both (headerMark ++ littleEndian orderBytes order) (littleEndian countBytes n)
     (both headerMark (littleEndian orderBytes order) (omega arith) (littleEndian-bytes orderBytes order)) (littleEndian-bytes countBytes n)) (littleEndian-bytes countBytes b)) (littleEndian-bytes keyBytes root)
 
-pub salted-bytes : (salt : ℕ) (bytes : List ℕ) → All IsByte bytes → All IsByte (salted salt bytes)
+salted-bytes : (salt : ℕ) (bytes : List ℕ) → All IsByte bytes → All IsByte (salted salt bytes)
 unfolding salted
 salted-bytes salt bytes h =
     let fields = drop (length headerMark) (take headerBytes bytes) in

@@ -1,4 +1,4 @@
--- The header and the node records at the start of bytes: their marks, how long they are, and what they show. Assumes nothing.
+-- The marks at the start of bytes, and the node records there: how long they are, and what they show. Assumes nothing.
 use mathlib.Core.Bool.{Bool, true, false, _&&_}
 use mathlib.Core.List.{List, [], _∷_}
 use mathlib.Core.Logic.{_≢_}
@@ -16,8 +16,8 @@ use Rattle.measure.proofs.Stored.{stored-measures, unmeasured-right}
 use Rattle.measure.proofs.Tags.{tag-from-stored, unmeasured-tag}
 use Rattle.treap.specs.Image.{lengthBytes, correctionBytes, nodeMark}
 use Rattle.table.specs.Contents.{rightMeasure}
-use Rattle.image.specs.Layout.{headerBytes, saltBytes, nodeBytes, measureBytes, lengthAt, correctionAt}
-use Rattle.image.specs.Image.{isSalted, headerSpan, fieldAt, isMeasured, nodeSpan, entryShown, nodeEntries, nodesSpan}
+use Rattle.image.specs.Layout.{nodeBytes, measureBytes, lengthAt, correctionAt}
+use Rattle.image.specs.Image.{fieldAt, isMeasured, nodeSpan, entryShown, nodeEntries, nodesSpan}
 use Rattle.image_collect.specs.Reading.{isNode, areNodes}
 
 -- ---- a mark, by its two bytes
@@ -37,19 +37,6 @@ module _ (second : ℕ) (bytes : List ℕ) (long : 2 ≤ length bytes) where
 
   pub mark-second : getD bytes 0 0 ≡ 76 → eqb (getD bytes 1 0) second ≡ same (take 2 bytes) (76 ∷ second ∷ [])
   mark-second e = sym (mark-bytes second bytes long ∙ ap (λ (b : Bool). b && eqb (getD bytes 1 0) second) (eq-eqb (getD bytes 0 0) 76 e))
-
--- ---- the header
-module _ (bytes : List ℕ) where
-  pub span-salted : isSalted bytes ≡ true → headerSpan bytes ≡ headerBytes + saltBytes
-  unfolding headerSpan
-  span-salted e = rw e
-
-  pub span-unsalted : isSalted bytes ≡ false → headerSpan bytes ≡ headerBytes
-  unfolding headerSpan
-  span-unsalted e = rw e
-
-  pub header-within : headerBytes ≤ headerSpan bytes
-  header-within = by-test (isSalted bytes) (λ e. omega (arith, span-salted e)) (λ e. omega (arith, span-unsalted e))
 
 -- ---- one record
 module _ (bytes : List ℕ) where

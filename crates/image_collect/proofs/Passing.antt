@@ -15,7 +15,7 @@ use Rattle.treap.specs.Image.{keyBytes}
 use Rattle.table.specs.Contents.{Entry, entryKeys}
 use Rattle.table.specs.Tags.{entryTags}
 use Rattle.image.specs.Layout.{keyAt}
-use Rattle.image.specs.Image.{numberOf, fieldAt, nodeSpan, entryShown, nodeEntries, nodesSpan}
+use Rattle.image.specs.Image.{headerSpan, numberOf, fieldAt, nodeSpan, entryShown, nodeEntries, nodesSpan}
 use Rattle.image_collect.specs.declared.Checked.{Checked}
 use Rattle.image_collect.specs.declared.Checked.the-variants.{End, Broken}
 use Rattle.image_collect.specs.Reading.{isNode, areNodes, checked}
@@ -24,6 +24,10 @@ use Rattle.image_collect.proofs.Nodes.{node-inside}
 -- ---- bytes from an index on
 pub from-index : (at : ℕ) (bytes : List ℕ) → take (length bytes - at) (drop at bytes) ≡ drop at bytes
 from-index at bytes = take-all (length bytes - at) (drop at bytes) (omega (arith, length-drop at bytes))
+
+-- what follows the header, handed on as a part
+pub from-header : (bytes : List ℕ) (head : ℕ) → head ≡ headerSpan bytes → take (length bytes - head) (drop head bytes) ≡ drop (headerSpan bytes) bytes
+from-header bytes head e = from-index head bytes ∙ ap (λ (n : ℕ). drop n bytes) e
 
 pub field-from : (from at width : ℕ) (bytes : List ℕ) → fieldAt at width (drop from bytes) ≡ fieldAt (from + at) width bytes
 unfolding fieldAt

@@ -26,9 +26,9 @@ use Rattle.image.specs.Image.{imageOf, headerSpan, fieldAt, nodeEntries, nodesS
 use Rattle.image.proofs.Judging.{is-image-says}
 use Rattle.image.proofs.Lengths.{blockPart-length, image-length}
 use Rattle.image.proofs.Records as written
-use Rattle.image.proofs.Reading.{Readable, nodeOf-left, nodes-first, part-held, part-nodes, part-left, blocks-readable, number-read, span-read, parts-read, measured-right, read-of-image}
+use Rattle.image.proofs.Reading.{Readable, nodeOf-left, nodes-first, part-held, part-nodes, part-left, blocks-readable, number-read, header-inside, parts-read, measured-right, read-of-image}
 use Rattle.image_collect.specs.Reading.{isNode, areNodes, intact, blocksOf, entriesOf, readable, RoomFor}
-use Rattle.image_collect.proofs.Nodes.{header-within, node-plain, node-measured, entries-number, nodes-inside, nodes-least, nodes-right}
+use Rattle.image_collect.proofs.Nodes.{node-plain, node-measured, entries-number, nodes-inside, nodes-least, nodes-right}
 
 -- ---- the record of a key, whatever follows it
 module _ (key left right rank count long stored : ℕ) (rest : List ℕ) where
@@ -114,7 +114,7 @@ module _ (c : Contents) (valid : Valid mostSlots c) where
       let long = image-length c valid in
       let fit = valid .keys-fit in
       let few : length (keysIn c) ≤ room = enough (length (keysIn c)) fit (omega (arith, long, written.head-at-least (c .salt))) in
-      and-both (leb (headerSpan (imageOf c)) (length (imageOf c))) _ (le-leb (headerSpan (imageOf c)) (length (imageOf c)) (omega (arith, long, span-read c valid)))
+      and-both (leb (headerSpan (imageOf c)) (length (imageOf c))) _ (le-leb (headerSpan (imageOf c)) (length (imageOf c)) (header-inside c valid))
       (and-both (intact (blocksOf (imageOf c)) (drop (headerSpan (imageOf c)) (imageOf c))) (leb (length (entriesOf (imageOf c))) room) image-intact
       (le-leb (length (entriesOf (imageOf c))) room (omega (arith, few, entries-total))))
 
@@ -194,7 +194,7 @@ module _ (room : ℕ) (bytes : List ℕ) (e : readable room bytes ≡ true) wher
   unfolding entriesOf
   readable-fits other few enough =
       let inside = entries-inside (blocksOf bytes) (drop (headerSpan bytes) bytes) all-intact in
-      enough (length (entriesOf bytes)) (omega (arith, readable-few, few)) (omega (arith, inside, readable-header, header-within bytes, length-drop (headerSpan bytes) bytes))
+      enough (length (entriesOf bytes)) (omega (arith, readable-few, few)) (omega (arith, inside, readable-header, written.header-within bytes, length-drop (headerSpan bytes) bytes))
 
   pub readable-right : All (λ e. rightMeasure e ≡ true) (entriesOf bytes)
   unfolding entriesOf

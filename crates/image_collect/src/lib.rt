@@ -46,11 +46,9 @@ pub enum Collected {
 
 // Whether the bytes begin with a mark of this kind.
 fn is_marked(bytes: &[u8], kind: u8) -> bool
+    requires { ⌜ 2 ≤ length (now bytes) ⌝ }
     ensures { λ r. ⌜ r ≡ same (take 2 (now (bytes .entry))) (76 ∷ kind ∷ []) ⌝ }
 {
-    if bytes.len() < 2 {
-        return false;
-    }
     if bytes[0] != MARK {
         return false;
     }
@@ -61,6 +59,9 @@ fn is_marked(bytes: &[u8], kind: u8) -> bool
 fn is_salted(image: &[u8]) -> bool
     ensures { λ r. ⌜ r ≡ isSalted (now (image .entry)) ⌝ }
 {
+    if image.len() < 2 {
+        return false;
+    }
     is_marked(image, SALTED_MARK)
 }
 
@@ -87,6 +88,7 @@ pub fn salt_shown(image: &[u8]) -> u64
 
 // Whether the node record at the start of the bytes is a measured key's.
 fn is_measured(node: &[u8]) -> bool
+    requires { ⌜ nodeBytes ≤ length (now node) ⌝ }
     ensures { λ r. ⌜ r ≡ isMeasured (now (node .entry)) ⌝ }
 {
     is_marked(node, MEASURED_MARK)

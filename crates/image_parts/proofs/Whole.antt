@@ -11,11 +11,11 @@ use Rattle.lists.proofs.Parts.{overwrite-next}
 use Rattle.measure.specs.Tag.{lengthIn}
 use Rattle.treap.specs.Image.{headerRecord}
 use Rattle.lists.proofs.FlatMap.{length-flatMap-headed}
-use Rattle.image.specs.Layout.{headerBytes, saltBytes, headBytes, blockBytes, nodeBytes, measureBytes}
+use Rattle.image.specs.Layout.{headBytes, blockBytes, nodeBytes, measureBytes}
 use Rattle.table_encode.specs.Encode.{Columns, keyAt}
 use Rattle.image.specs.Image.{salted}
 use Rattle.image.proofs.PartLengths.{nodes-length}
-use Rattle.image.proofs.Records.{head-at-most, header-length}
+use Rattle.image.proofs.Records.{header-length}
 use Rattle.image_blocks.specs.Naming.{sameWeight}
 use Rattle.image_parts.specs.Parts.{nodeAt, measuredAt, blockAt, blocksAt, imageAt}
 use Rattle.image_parts.proofs.Nodes.{node-at-length, block-at-length}
@@ -75,9 +75,6 @@ module _ (order salt : ℕ) (keys tags : List ℕ) (root : ℕ) (c : Columns) (w
     image-at-length =
         let part = salted salt (headerRecord order (length keys) (length (runs (sameWeight weights) sorted)) (keyAt keys root)) in
         omega (arith, blocks-length, length-append part (blocksAt keys tags root c weights sorted), header-length salt order (length keys) (length (runs (sameWeight weights) sorted)) (keyAt keys root))
-
-    pub head-few : head ≤ headerBytes + saltBytes
-    head-few = omega (arith, head-at-most salt)
 
     pub blocks-few : blocks ≤ length keys
     blocks-few = omega (arith, runs-few (sameWeight weights) sorted)

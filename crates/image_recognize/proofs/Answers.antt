@@ -14,8 +14,7 @@ use Rattle.table_prepare.specs.Prepared.{Keys}
 use Rattle.table_prepare.proofs.Writable.{valid-keys}
 use Rattle.image.specs.Layout.{orderAt}
 use Rattle.image.specs.Image.{headerSpan, fieldAt, readImage, isImage}
-use Rattle.image.proofs.Lengths.{image-length}
-use Rattle.image.proofs.Reading.{span-read}
+use Rattle.image.proofs.Reading.{header-inside}
 use Rattle.image.proofs.Judging.{is-image-exactly}
 use Rattle.image_recognize.specs.declared.Recognized.{Recognized}
 use Rattle.image_recognize.specs.declared.Recognized.the-variants.{Image, Other}
@@ -58,5 +57,4 @@ module _ (bytes : List ℕ) where
 
   pub image-header : Valid mostSlots (readImage bytes) → isImage bytes ≡ true → headerSpan bytes ≤ length bytes
   image-header valid one =
-      let exactly = is-image-exactly bytes one in
-      omega (arith, ap headerSpan exactly, span-read (readImage bytes) valid, ap length exactly, image-length (readImage bytes) valid)
+      subst (λ (b : List ℕ). headerSpan b ≤ length b) (sym (is-image-exactly bytes one)) (header-inside (readImage bytes) valid)

@@ -42,19 +42,19 @@ head-written before marked ordered sized counted output at kind order size block
     field-written before at (part ++ littleEndian countBytes size ++ littleEndian countBytes blocks) counted (littleEndian keyBytes root) output 7 refl (omega arith) g r
 
 -- ---- the header, by whether it has a salt
-module _ (before output : List ℕ) (at order size blocks root salt : ℕ) where
-  pub unsalted-room : salt ≡ 0 → at + headBytes salt ≤ length before → at + headerBytes ≤ length before
-  unsalted-room e room = subst (λ (n : ℕ). at + headBytes n ≤ length before) e room
+pub unsalted-room : (at salt room : ℕ) → salt ≡ 0 → at + headBytes salt ≤ room → at + headerBytes ≤ room
+unsalted-room at salt room e fits = subst (λ (n : ℕ). at + headBytes n ≤ room) e fits
 
+pub salted-room : (at salt room : ℕ) → salt ≢ 0 → at + headBytes salt ≤ room → at + headerBytes + saltBytes ≤ room
+salted-room at salt room d fits =
+    let same : headBytes salt ≡ headerBytes + saltBytes = rw (ne-eqb salt 0 d) in
+    omega arith
+
+module _ (before output : List ℕ) (at order size blocks root salt : ℕ) where
   pub unsalted-written : salt ≡ 0 → output ≡ overwrite before at (headerMark ++ drop 2 (headerRecord order size blocks root))
       → output ≡ overwrite before at (salted salt (headerRecord order size blocks root))
   unfolding salted headerRecord
   unsalted-written e o = rw (eq-eqb salt 0 e) o
-
-  pub salted-room : salt ≢ 0 → at + headBytes salt ≤ length before → at + headerBytes + saltBytes ≤ length before
-  salted-room d room =
-      let same : headBytes salt ≡ headerBytes + saltBytes = rw (ne-eqb salt 0 d) in
-      omega arith
 
   pub salted-written : (common : List ℕ) → salt ≢ 0 → at + headBytes salt ≤ length before
       → common ≡ overwrite before at (saltedMark ++ drop 2 (headerRecord order size blocks root))
@@ -63,7 +63,7 @@ module _ (before output : List ℕ) (at order size blocks root salt : ℕ) where
   unfolding salted headerRecord
   salted-written common d room c s =
       let part = saltedMark ++ drop 2 (headerRecord order size blocks root) in
-      let fits = salted-room d room in
+      let fits = salted-room at salt (length before) d room in
       rw (ne-eqb salt 0 d) (field-written before at part common (littleEndian saltBytes salt) output saltAt refl (omega arith) c s)
 
 pub block-written : (before marked led leveled output : List ℕ) (at leader level held : ℕ) → at + blockBytes ≤ length before

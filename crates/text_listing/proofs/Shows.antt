@@ -17,20 +17,19 @@ use Rattle.measure.specs.Measure.{storedCorrection}
 use Rattle.treap.specs.Treap.{top, leftLink, rightLink}
 use Rattle.treap.specs.Levels.{rank, count}
 use Rattle.treap.specs.Blocks.{Block, blocks, fill}
-use Rattle.treap.specs.Image.{orderBytes, countBytes, keyBytes, blockRecord, nodeRecord, nodeOf, blockPart}
+use Rattle.treap.specs.Image.{countBytes, keyBytes, blockRecord, nodeRecord, nodeOf, blockPart}
 use Rattle.treap_structure.proofs.Blocks.{Holds, blocks-hold}
 use Rattle.table.specs.Layout.{mostSlots}
 use Rattle.table.specs.Contents.{Contents, Valid, keysIn, priorityIn, measureIn}
 use Rattle.table.proofs.Orders.{order-within, order-wide}
-use Rattle.image.specs.Layout.{blockBytes, orderAt, sizeAt, blocksAt, rootAt, heldAt, mostBytes, IsByte}
-use Rattle.image.specs.Image.{imageOf, headerSpan, readImage, isImage, fieldAt, nodesSpan}
+use Rattle.image.specs.Layout.{blockBytes, sizeAt, rootAt, heldAt, mostBytes, IsByte}
+use Rattle.image.specs.Image.{imageOf, readImage, isImage, fieldAt, nodesSpan}
 use Rattle.image.proofs.Judging.{is-image-says}
-use Rattle.image.proofs.Records.{header-order, header-blocks, block-held, block-dropped, node-key}
-use Rattle.image.proofs.Lengths.{blockPart-length, image-is, image-length, image-longest}
-use Rattle.image.proofs.Reading.{nodeOf-left, nodes-first, nodes-span, span-read, parts-read}
+use Rattle.image.proofs.Records.{header-within, block-held, block-dropped, node-key}
+use Rattle.image.proofs.Lengths.{blockPart-length, image-is, image-longest}
+use Rattle.image.proofs.Reading.{nodeOf-left, nodes-first, nodes-span, order-read, number-read, header-inside, parts-read}
 use Rattle.image.proofs.Fits.{HeaderFits, BlockFits, NodeFits, header-fits, blocks-fit-fields, nodes-fit-fields}
 use Rattle.text_listing.specs.Listing.{keyLineOf, blockLines, listing, listingOf}
-use Rattle.image_collect.proofs.Nodes.{header-within}
 use Rattle.text_listing.specs.Shown.{shownKey, shownKeys, heldIn, partBytes, shownBlockLine, shownBlock, shownBlocks, shown, HasBlocks, HasRecords}
 use Rattle.text_listing.proofs.RecordFields.{header-size, header-root, block-leader, block-level, node-rank, node-count}
 use Rattle.text_listing.proofs.Walking.{key-line-shown, block-line-shown, header-line-shown}
@@ -154,29 +153,17 @@ module _ (c : Contents) (valid : Valid mostSlots c) where
       all-blocks
       (all-both BlockFits (Holds (c .order) (priorityIn c) (keysIn c) wide (valid .keys-rise)) all-blocks (blocks-fit-fields c valid) (blocks-hold (c .order) (priorityIn c) (keysIn c) wide (valid .keys-rise)))
 
-  -- the fields of the header, and what follows it
+  -- the header's number of keys and its root
   module _ (fits : HeaderFits c) where
-    order-read : fieldAt orderAt orderBytes (imageOf c) ≡ c .order
-    order-read = ap (fieldAt orderAt orderBytes) (image-is c) ∙ header-order (c .salt) (c .order) (length (keysIn c)) (length all-blocks) (top (priorityIn c) (keysIn c)) records (fits .order)
-
     size-read : fieldAt sizeAt countBytes (imageOf c) ≡ length (keysIn c)
     size-read = ap (fieldAt sizeAt countBytes) (image-is c) ∙ header-size (c .salt) (c .order) (length (keysIn c)) (length all-blocks) (top (priorityIn c) (keysIn c)) records (fits .size)
-
-    number-read : fieldAt blocksAt countBytes (imageOf c) ≡ length all-blocks
-    number-read = ap (fieldAt blocksAt countBytes) (image-is c) ∙ header-blocks (c .salt) (c .order) (length (keysIn c)) (length all-blocks) (top (priorityIn c) (keysIn c)) records (fits .number)
 
     root-read : fieldAt rootAt keyBytes (imageOf c) ≡ top (priorityIn c) (keysIn c)
     root-read = ap (fieldAt rootAt keyBytes) (image-is c) ∙ header-root (c .salt) (c .order) (length (keysIn c)) (length all-blocks) (top (priorityIn c) (keysIn c)) records (fits .root)
 
-  records-read : drop (headerSpan (imageOf c)) (imageOf c) ≡ records
-  records-read = parts-read c valid
-
   some-block : min 1 (length (keysIn c)) ≤ length all-blocks
   unfolding blocks
   some-block = by-test (ltb 0 (length (keysIn c))) (λ e. rw e (omega arith)) (λ e. let none = ltb-false 0 (length (keysIn c)) e in rw e (omega arith))
-
-  header-there : headerSpan (imageOf c) ≤ length (imageOf c)
-  header-there = omega (arith, span-read c valid, image-length c valid)
 
   -- its records show its listing
   pub image-shows : shown (imageOf c) ≡ listingOf c
@@ -185,22 +172,22 @@ module _ (c : Contents) (valid : Valid mostSlots c) where
       let fits = header-fits c valid in
       ap₂ (λ (xs ys : List ℕ). xs ++ ys)
       (sym
-      (header-line-shown (imageOf c) (c .order) (length (keysIn c)) (length all-blocks) (fill (c .order) (length (keysIn c)) (length all-blocks)) (top (priorityIn c) (keysIn c)) (sym (order-read fits)) (sym (size-read fits))
-      (sym (number-read fits)) refl (sym (root-read fits))))
-      (ap₂ shownBlocks (number-read fits) records-read ∙ blocks-shown c all-blocks listable)
+      (header-line-shown (imageOf c) (c .order) (length (keysIn c)) (length all-blocks) (fill (c .order) (length (keysIn c)) (length all-blocks)) (top (priorityIn c) (keysIn c)) (sym (order-read c valid)) (sym (size-read fits))
+      (sym (number-read c valid)) refl (sym (root-read fits))))
+      (ap₂ shownBlocks (number-read c valid) (parts-read c valid) ∙ blocks-shown c all-blocks listable)
 
   pub image-has-records : HasRecords (imageOf c)
   image-has-records =
       let fits = header-fits c valid in
       record {
-        header = omega (arith, header-there, header-within (imageOf c));
-        whole = header-there;
-        order-least = omega (arith, order-read fits, order-within (c .order) (valid .order-right));
-        order-most = omega (arith, order-read fits, fits .order);
+        header = omega (arith, header-inside c valid, header-within (imageOf c));
+        whole = header-inside c valid;
+        order-least = omega (arith, order-read c valid, order-within (c .order) (valid .order-right));
+        order-most = omega (arith, order-read c valid, fits .order);
         keys-most = omega (arith, size-read fits, fits .size);
-        blocks-most = omega (arith, number-read fits, fits .number);
-        blocks-least = omega (arith, size-read fits, number-read fits, some-block);
-        blocks = subst₂ HasBlocks (sym (number-read fits)) (sym records-read) (blocks-there c all-blocks listable);
+        blocks-most = omega (arith, number-read c valid, fits .number);
+        blocks-least = omega (arith, size-read fits, number-read c valid, some-block);
+        blocks = subst₂ HasBlocks (sym (number-read c valid)) (sym (parts-read c valid)) (blocks-there c all-blocks listable);
       }
 
 -- ---- bytes that are an image

@@ -15,7 +15,7 @@ use Rattle.table.proofs.Tagged.{tags-many}
 use Rattle.image.specs.Image.{readImage, isImage}
 use Rattle.image.specs.Layout.{IsByte}
 use Rattle.image.proofs.Judging.{is-image-valid}
-use Rattle.image_collect.proofs.Nodes.{header-within}
+use Rattle.image.proofs.Records.{header-within}
 use Rattle.image_recognize.proofs.Answers.{told-image, told-other, told-number, image-keys, image-beside, image-header}
 use Rattle.image_recognize.proofs.Recognizing.{shown-tagged}
 use Rattle.call_image.proofs.Reading.{refused-bytes, refused-many, accepted}

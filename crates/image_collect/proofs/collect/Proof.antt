@@ -13,9 +13,10 @@ use Rattle.table.specs.Contents.{entryKeys}
 use Rattle.table.specs.Tags.{entryTags}
 use Rattle.image.specs.Layout.{blockBytes, heldAt}
 use Rattle.image.specs.Image.{headerSpan, fieldAt, nodeEntries, nodesSpan}
+use Rattle.image.proofs.Records.{header-within}
 use Rattle.image_collect.specs.declared.Collected.the-variants.{Broken}
 use Rattle.image_collect.specs.Reading.{areNodes, checked, blocksOf, entriesOf, readable, collected}
-use Rattle.image_collect.proofs.Nodes.{header-within, nodes-inside}
+use Rattle.image_collect.proofs.Nodes.{nodes-inside}
 use Rattle.image_collect.proofs.Passing.{from-index, told-nodes, told-broken, told-end}
 use Rattle.image_collect.proofs.Walking.{Walked, broken, no-header, walked-none, keys-size, tags-size, short, no-nodes, too-many, walked-more, counted, keys-collected, tags-collected}
 use borrow.Author.Needs.{needs}

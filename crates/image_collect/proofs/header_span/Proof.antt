@@ -1,6 +1,6 @@
 -- `image_collect::header_span` meets its contract. Assumes nothing.
 use mathlib.Core.Path.{sym, _∙_}
-use Rattle.image_collect.proofs.Nodes.{span-salted, span-unsalted}
+use Rattle.image.proofs.Records.{span-salted, span-unsalted}
 use borrow.Author.Needs.{needs}
 use Rattle.image_collect.proofs.header_span.Statement.{statement}
 use Rattle.image_collect.proofs.header_span.Tie as tie

@@ -2,7 +2,7 @@
 use mathlib.Core.Path.{sym, _∙_}
 use native.Mathlib.Omega.{arith}
 use Rattle.image.specs.Image.{saltShown}
-use Rattle.image_collect.proofs.Nodes.{span-salted}
+use Rattle.image.proofs.Records.{span-salted}
 use borrow.Author.Needs.{needs}
 use Rattle.image_collect.proofs.salt_shown.Statement.{statement}
 use Rattle.image_collect.proofs.salt_shown.Tie as tie

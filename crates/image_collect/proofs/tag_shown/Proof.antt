@@ -9,8 +9,7 @@ use borrow.Author.Tests.{not-true, not-false}
 use Rattle.measure.specs.Tag.{isStored, tagFrom}
 use Rattle.image.specs.Layout.{nodeBytes, measureBytes}
 use Rattle.image.specs.Image.{isMeasured}
-use Rattle.image_collect.proofs.Nodes.{span-measured, node-inside, node-stored, tag-plain, tag-measured}
-use borrow.Author.Needs.{needs}
+use Rattle.image_collect.proofs.Nodes.{span-measured, node-inside, node-long, node-stored, tag-plain, tag-measured}
 use Rattle.image_collect.proofs.tag_shown.Statement.{statement}
 use Rattle.image_collect.proofs.tag_shown.Tie as tie
 
@@ -28,7 +27,7 @@ long : (e : tie.Else1) → nodeBytes + measureBytes ≤ length (bytes e)
 long e = omega (arith, node-inside (bytes e) (begun e .pre), span-measured (bytes e) (measured e))
 
 is-measured-requires : tie.Need-is-measured-requires
-is-measured-requires c κs = search needs
+is-measured-requires c κs = node-long (c .before .args .node .now) (c .before .pre)
 
 returns : tie.Need-returns
 returns c =

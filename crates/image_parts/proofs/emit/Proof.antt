@@ -7,8 +7,9 @@ use Rattle.lists.specs.Lists.{All}
 use Rattle.table_encode.specs.Encode.{Columns}
 use Rattle.table.specs.Layout.{mostSlots}
 use Rattle.image.specs.Layout.{headerBytes, saltBytes}
+use Rattle.image.proofs.Records.{head-at-most}
 use Rattle.image_parts.specs.Parts.{imageAt}
-use Rattle.image_parts.proofs.Whole.{image-at-length, head-few, blocks-few, measured-few, blocks-fit, image-written}
+use Rattle.image_parts.proofs.Whole.{image-at-length, blocks-few, measured-few, blocks-fit, image-written}
 use Rattle.image_parts.proofs.Room.{written-short, written-whole}
 use borrow.Author.Needs.{needs}
 use Rattle.image_parts.proofs.emit.Statement.{statement}
@@ -40,10 +41,9 @@ few c =
     let runs = c .before .count-runs in
     let found = c .count-measured in
     let small = start .pre .1 .0 .few in
-    let wide = head-few (start .args .order) (start .args .salt) (start .args .keys .now) (start .args .tags .now) (start .args .root) (columns start) (start .args .weights .now) (start .args .sorted .now) (head .result) (runs .result) (found .result) (head .ensures) (runs .ensures) (found .ensures) (start .pre .1 .1 .1) in
     let blocks = blocks-few (start .args .order) (start .args .salt) (start .args .keys .now) (start .args .tags .now) (start .args .root) (columns start) (start .args .weights .now) (start .args .sorted .now) (head .result) (runs .result) (found .result) (head .ensures) (runs .ensures) (found .ensures) (start .pre .1 .1 .1) in
     let measured = measured-few (start .args .order) (start .args .salt) (start .args .keys .now) (start .args .tags .now) (start .args .root) (columns start) (start .args .weights .now) (start .args .sorted .now) (head .result) (runs .result) (found .result) (head .ensures) (runs .ensures) (found .ensures) (start .pre .1 .1 .1) in
-    (wide, omega arith, (omega arith, omega arith))
+    (omega (arith, head .ensures, head-at-most (start .args .salt)), omega arith, (omega arith, omega arith))
 
 mul-size : tie.Need-mul-size
 mul-size c = omega (arith, few c)

@@ -16,11 +16,11 @@ use Rattle.table.specs.Tags.{tagsIn, tagged}
 use Rattle.table.proofs.Tagged.{beside-of}
 use Rattle.table_decode.proofs.SortedInPlace.{Collected}
 use Rattle.table_prepare.specs.Prepared.{Keys}
+use Rattle.image.proofs.Records.{header-within}
 use Rattle.image_parts.specs.Written.{writtenTo}
 use Rattle.image.specs.Layout.{IsByte}
 use Rattle.image.specs.Image.{imageOf, headerSpan, saltShown, readImage}
 use Rattle.image_collect.specs.Reading.{readable, entriesOf, RoomFor}
-use Rattle.image_collect.proofs.Nodes.{header-within}
 use Rattle.image_collect.proofs.Readable.{unreadable, readable-header, readable-few, readable-fits}
 use Rattle.image_recognize.proofs.Recognizing.{orderShown, shown-right, shown-tagged, stop, wrong-order, not-rising, wrong-length, differs, can-be-written, is-one, accepted, told-readable, told-broken, told-number, shown-size, tags-size, keys-sorted, tags-sorted, written-over}
 use borrow.Author.Needs.{needs}

@@ -1,6 +1,6 @@
 -- `text_listing::put_records` meets its contract. Assumes nothing.
 use mathlib.Core.List.{List, _++_}
-use mathlib.Core.Path.{_≡_, sym, ap, ap₂, _∙_, subst, subst₂}
+use mathlib.Core.Path.{_≡_, sym, ap₂, subst, subst₂}
 use Prim.Native.Nat.{ℕ, _+_, _-_, _≤_}
 use native.Mathlib.Omega.{arith}
 use lib.ListN.{length, take, drop}
@@ -10,7 +10,7 @@ use Rattle.image.specs.Image.{headerSpan, fieldAt}
 use Rattle.text.specs.Written.{Written}
 use Rattle.text.proofs.Pieces.{front-fits, next-fits, written-then}
 use Rattle.text_listing.specs.Shown.{shownBlocks, shownHeader, shown, HasBlocks}
-use Rattle.image_collect.proofs.Passing.{from-index}
+use Rattle.image_collect.proofs.Passing.{from-header}
 use borrow.Author.Needs.{needs}
 use Rattle.text_listing.proofs.put_records.Statement.{statement}
 use Rattle.text_listing.proofs.put_records.Tie as tie
@@ -32,10 +32,7 @@ handed-on : (c : tie.After-put-header) →
     let bytes = begun c .args .image .now in
     let head = c .before .before .before .header-span .result in
     take (length bytes - head) (drop head bytes) ≡ drop (headerSpan bytes) bytes
-handed-on c =
-    let bytes = begun c .args .image .now in
-    let head = c .before .before .before .header-span in
-    from-index (head .result) bytes ∙ ap (λ (n : ℕ). drop n bytes) (head .ensures)
+handed-on c = let head = c .before .before .before .header-span in from-header (begun c .args .image .now) (head .result) (head .ensures)
 
 records : (c : tie.After-put-header) →
     let bytes = begun c .args .image .now in

@@ -8,8 +8,8 @@ use Rattle.treap.specs.Image.{countBytes}
 use Rattle.image.specs.Layout.{blocksAt}
 use Rattle.image.specs.Image.{headerSpan, fieldAt}
 use Rattle.text_listing.specs.Shown.{shownBlocks, shownHeader, shown, HasBlocks}
-use Rattle.image_collect.proofs.Nodes.{header-within}
-use Rattle.image_collect.proofs.Passing.{from-index}
+use Rattle.image.proofs.Records.{header-within}
+use Rattle.image_collect.proofs.Passing.{from-header}
 use borrow.Author.Needs.{needs}
 use Rattle.text_listing.proofs.lengths.records.Statement.{statement}
 use Rattle.text_listing.proofs.lengths.records.Tie as tie
@@ -22,10 +22,7 @@ handed-on : (c : tie.After-header) →
     let bytes = begun c .args .image .now in
     let head = c .before .before .header-span .result in
     take (length bytes - head) (drop head bytes) ≡ drop (headerSpan bytes) bytes
-handed-on c =
-    let bytes = begun c .args .image .now in
-    let head = c .before .before .header-span in
-    from-index (head .result) bytes ∙ ap (λ (n : ℕ). drop n bytes) (head .ensures)
+handed-on c = let head = c .before .before .header-span in from-header (begun c .args .image .now) (head .result) (head .ensures)
 
 rest-long : (c : tie.After-header) →
     let bytes = begun c .args .image .now in
