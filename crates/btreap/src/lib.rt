@@ -1,5 +1,7 @@
 // The calls of the index as functions that a C or a Rust program links. Each takes any words, numbers and bytes, keeps no state, and
 // changes none of the lent memory where it refuses.
+#![tactic(auto)]
+
 ghost use Rattle.std.specs.Prelude.{◌≡◌, true};
 ghost use Rattle.measure.specs.Measure.{lies_z};
 ghost use Rattle.paris_points.specs.Points.{least_rest, greatest_rest};

@@ -1,5 +1,7 @@
 // The answers of the calls as the structs of `include/btreap.h`: the number of a refusal, zero where there is none, and the other
 // numbers, zero where there is one.
+#![tactic(auto)]
+
 ghost use Rattle.std.specs.Prelude.{◌≡◌, pos};
 ghost use Rattle.call_replies.specs.Replies.{number_of, set_up_of, loaded_of, built_of, inserted_of, deleted_of, looked_up_of, correction_of, batched_of, ranged_of, stepped_of, written_of, read_back_of, listed_of, pointed_of, rest_of};
 ghost use Rattle.call_replies.specs.declared.LookedUp.TheVariants.{Held};

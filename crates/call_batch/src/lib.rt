@@ -1,4 +1,6 @@
 // Looking a batch of keys up together, in a table of any words. A batch is document 02's sheet, a question one of its records.
+#![tactic(auto)]
+
 ghost use Rattle.std.specs.Prelude.{true, map, ◌≡◌, ◌<◌, length};
 ghost use Rattle.priority.specs.Priority.{HoldsConstants};
 ghost use Rattle.table.specs.Contents.{rising_keys};

@@ -1,4 +1,6 @@
 // Making a table of any words: the blank one of an order and a salt, or that of these and a list of keys with their measures.
+#![tactic(auto)]
+
 ghost use Rattle.std.specs.Prelude.{◌≡◌, true, ◌<◌, ◌≤◌, length, replicate};
 ghost use Rattle.measure.specs.Measure.{measures_beside, are_measured};
 ghost use Rattle.priority.specs.Priority.{HoldsConstants};

@@ -1,4 +1,6 @@
 // What insert, delete and a load share: coming to know that a table is sound, writing it of other keys, and laws of the sets and the tables that they leave.
+#![tactic(auto)]
+
 ghost use Rattle.std.specs.Prelude.{◌≡◌, true, ◌<◌, ◌≤◌, length, take};
 ghost use Rattle.priority.specs.Priority.{HoldsConstants};
 ghost use Rattle.table.specs.Layout.{most_slots, table_words};

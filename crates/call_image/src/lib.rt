@@ -1,5 +1,7 @@
 // Writing the image of a table, and making a table of an image. Each call takes any words and any bytes; what it refuses it leaves
 // as it was.
+#![tactic(auto)]
+
 ghost use Rattle.std.specs.Prelude.{◌≡◌, ◌<◌, ◌≤◌, length};
 ghost use Rattle.priority.specs.Priority.{HoldsConstants};
 ghost use Rattle.table.specs.Layout.{most_slots, table_words};

@@ -1,4 +1,6 @@
 // Inserting a key with its measure into a table, by writing the table of the keys that result.
+#![tactic(auto)]
+
 ghost use Rattle.std.specs.Prelude.{true, ◌≡◌, ◌<◌, ◌≤◌, length};
 ghost use Rattle.measure.specs.Tag.{measure_at, is_tag};
 ghost use Rattle.priority.specs.Priority.{HoldsConstants};

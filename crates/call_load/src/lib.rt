@@ -1,4 +1,6 @@
 // A load that anyone can run again: set-up, and then operations that follow from a seed.
+#![tactic(auto)]
+
 ghost use Rattle.std.specs.Prelude.{◌≡◌, true, [], ◌<◌, ◌≤◌, length};
 ghost use Rattle.lists.specs.Lists.{All};
 ghost use Rattle.priority.specs.Priority.{HoldsConstants};

@@ -1,4 +1,6 @@
 // Looking a key up in a table of any words.
+#![tactic(auto)]
+
 ghost use Rattle.std.specs.Prelude.{◌≡◌, ◌<◌, ◌≤◌, length};
 ghost use Rattle.priority.specs.Priority.{HoldsConstants};
 ghost use Rattle.table_limits.specs.Lengths.{slots_for};

@@ -1,4 +1,6 @@
 // The size of a measure in Paris points, of any two numbers.
+#![tactic(auto)]
+
 ghost use Rattle.std.specs.Prelude.{◌≡◌, true};
 ghost use Rattle.measure.specs.Measure.{lies_z};
 ghost use Rattle.paris_points.specs.Points.{least_rest, greatest_rest};

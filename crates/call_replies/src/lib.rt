@@ -1,4 +1,6 @@
 // What the calls answer.
+#![tactic(auto)]
+
 ghost use Rattle.std.specs.Prelude.{◌≡◌};
 ghost use Rattle.call_replies.specs.Replies.{number_of};
 

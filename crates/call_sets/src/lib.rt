@@ -1,5 +1,7 @@
 // Changing lists in place: where a key stands among rising keys, and an element more or less at an index. The same two functions
 // serve a list of keys and the list of tags beside it.
+#![tactic(auto)]
+
 ghost use Rattle.std.specs.Prelude.{true, ◌≡◌, ◌<◌, ◌≤◌, length, take};
 ghost use Rattle.lists.specs.Lists.{Rising, member, overwrite};
 ghost use Rattle.call_sets.specs.Indices.{index_of, put_at, remove_at};

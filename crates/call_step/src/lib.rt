@@ -1,4 +1,6 @@
 // Reading a range key by key. Each step takes any words and any place; what it refuses it leaves as it was.
+#![tactic(auto)]
+
 ghost use Rattle.std.specs.Prelude.{◌≡◌};
 ghost use Rattle.table_judge.specs.Judge.{is_sound};
 ghost use Rattle.call_replies.specs.Replies.{stepped_of};

@@ -1,4 +1,6 @@
 // The one generator of this library: the rule by which each constant follows from the one before, and each state of a load.
+#![tactic(auto)]
+
 ghost use Rattle.std.specs.Prelude.{◌≡◌, ◌*◌, ◌%◌, ◌^◌};
 ghost use Rattle.generator.specs.Generator.{next};
 

@@ -1,4 +1,6 @@
 // Running a history of calls that is written down in words.
+#![tactic(auto)]
+
 ghost use Rattle.std.specs.Prelude.{◌≡◌};
 ghost use Rattle.history.specs.Call.{run, runs};
 ghost use Rattle.history_replay.specs.Script.{call_of, calls_in, BuiltFromBook};

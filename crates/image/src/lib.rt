@@ -1,5 +1,6 @@
 // The image of what a table holds, and which bytes are one, as definitions and laws. The numbers of its layout, for the crates
 // whose code reads or writes its bytes; `specs/Layout` has the same by name.
+#![tactic(auto)]
 
 // The bytes of a record: the header, a block, a node.
 pub const HEADER_BYTES: usize = 15;

@@ -1,4 +1,6 @@
 // Reading an image: its salt, the keys and the measures of its records.
+#![tactic(auto)]
+
 ghost use Rattle.std.specs.Prelude.{true, ◌∷◌, [], ◌≡◌, ◌+◌, ◌≤◌, length, take};
 ghost use Rattle.lists.specs.Lists.{overwrite, same};
 ghost use Rattle.measure.specs.Tag.{tag_of};

@@ -1,4 +1,6 @@
 // Comparing lists of bytes.
+#![tactic(auto)]
+
 ghost use Rattle.std.specs.Prelude.{◌≡◌};
 ghost use Rattle.lists.specs.Lists.{same};
 

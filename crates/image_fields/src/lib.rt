@@ -1,4 +1,6 @@
 // Numbers in bytes, the lowest byte first: the fields of an image.
+#![tactic(auto)]
+
 ghost use Rattle.std.specs.Prelude.{◌≡◌, ◌+◌, ◌≤◌, length};
 ghost use Rattle.lists.specs.Lists.{overwrite};
 ghost use Rattle.treap.specs.Image.{little_endian};

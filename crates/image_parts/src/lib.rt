@@ -1,4 +1,6 @@
 // The parts of an image: the records of keys and of blocks, from the columns of the keys by index, and the whole of them.
+#![tactic(auto)]
+
 ghost use Rattle.std.specs.Prelude.{◌≡◌, ◌+◌, ◌<◌, ◌≤◌, length};
 ghost use mathlib.Core.List.{flat_map};
 ghost use Rattle.std.proofs.Math.Seq.{slice};

@@ -1,4 +1,6 @@
 // What the programs print of the image on their standard input: its listing, or the printed pages of what it holds.
+#![tactic(auto)]
+
 ghost use Rattle.std.specs.Prelude.{true, ◌≡◌, ◌≤◌, length};
 ghost use Rattle.table.specs.Layout.{table_words};
 ghost use Rattle.table_judge.specs.Judge.{is_sound};

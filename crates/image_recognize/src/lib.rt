@@ -1,5 +1,7 @@
 // Deciding whether bytes are an image: their keys, with the tags of their measures, are collected and sorted, and the image of what they show
 // is compared with them.
+#![tactic(auto)]
+
 ghost use Rattle.std.specs.Prelude.{true, ◌≡◌, ◌+◌, ◌*◌, ◌≤◌, length};
 ghost use Rattle.lists.specs.Lists.{overwrite};
 ghost use Rattle.priority.specs.Priority.{HoldsConstants};

@@ -1,4 +1,6 @@
 // The records of an image, each written whole from a byte on.
+#![tactic(auto)]
+
 ghost use Rattle.std.specs.Prelude.{◌≡◌, ◌∷◌, [], ◌++◌, ◌+◌, ◌≤◌, length, drop};
 ghost use Rattle.lists.specs.Lists.{overwrite};
 ghost use Rattle.treap.specs.Image.{header_record, block_record, node_fields, node_record};

@@ -1,4 +1,6 @@
 // Writing the image of an order, a salt and keys with their measures.
+#![tactic(auto)]
+
 ghost use Rattle.std.specs.Prelude.{◌≡◌, ◌≤◌, length};
 ghost use Rattle.priority.specs.Priority.{HoldsConstants};
 ghost use Rattle.table.specs.Tags.{tagged, Beside};

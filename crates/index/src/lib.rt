@@ -1,4 +1,5 @@
 // The calls of the index. Each takes any words, numbers and bytes; what it refuses it leaves as it was.
+#![tactic(auto)]
 
 // Make a table: the blank one of an order and a salt, that of these and a strictly rising list of keys with their measures, that of an image, or that of a load.
 pub use call_build::{build, set_up};

@@ -1,4 +1,6 @@
 // The keys of a rising list that lie in a range.
+#![tactic(auto)]
+
 ghost use Rattle.std.specs.Prelude.{◌≡◌, ◌≤◌, length, take};
 ghost use Rattle.lists.specs.Lists.{lies, overwrite};
 ghost use Rattle.intervals.specs.Intervals.{within};

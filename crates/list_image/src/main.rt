@@ -1,4 +1,6 @@
 // Prints the listing of the image on standard input.
+#![tactic(auto)]
+
 use image_programs::Kind;
 
 fn main() {

@@ -112,18 +112,24 @@ pub first_none : (d : ℕ) (f : ℕ → Bool) (xs : List ℕ) → All (λ x. f x
 first_none d f [] h = refl
 first_none d f (x ∷ xs) h = rw h.0 (first_none d f xs h.1)
 
+first_here : (d : ℕ) (f : ℕ → Bool) (x : ℕ) (xs : List ℕ) → f x ≡ true → first d f (x ∷ xs) ≡ x
+first_here d f x xs t = rw t refl
+
+first_later : (d : ℕ) (f : ℕ → Bool) (x : ℕ) (xs : List ℕ) → f x ≡ false → first d f (x ∷ xs) ≡ first d f xs
+first_later d f x xs t = rw t refl
+
 pub first_passes : (d : ℕ) (f : ℕ → Bool) (xs : List ℕ) (y : ℕ) → member y xs ≡ true → f y ≡ true
     → (f (first d f xs) ≡ true) × (member (first d f xs) xs ≡ true)
 first_passes d f [] y m e = absurd (true_or_false false m refl)
 first_passes d f (x ∷ xs) y m e =
     by_test (f x)
-    (λ t. rw t (t, or_true_left (eqb x x) (member x xs) (eqb_same x)))
+    (λ t. subst (λ (z : ℕ). (f z ≡ true) × (member z (x ∷ xs) ≡ true)) (sym (first_here d f x xs t)) (t, or_true_left (eqb x x) (member x xs) (eqb_same x)))
     (λ t.
     let later : member y xs ≡ true =
     ⊎_elim (λ (q : eqb y x ≡ true). absurd (true_or_false (f y) e (ap f (eqb-true y x q) ∙ t))) (λ q. q) (or_true_cases (eqb y x) (member y xs) m)
     in
     let found = first_passes d f xs y later e in
-    rw t (found.0, or_true_right (eqb (first d f xs) x) (member (first d f xs) xs) found.1))
+    subst (λ (z : ℕ). (f z ≡ true) × (member z (x ∷ xs) ≡ true)) (sym (first_later d f x xs t)) (found.0, or_true_right (eqb (first d f xs) x) (member (first d f xs) xs) found.1))
 
 -- what is found, where something is
 pub first_found : (d : ℕ) (f : ℕ → Bool) (P : ℕ → Type 0) (xs : List ℕ) → All P xs → first d f xs ≢ d

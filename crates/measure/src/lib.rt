@@ -1,5 +1,7 @@
 // The measure of a last: which lengths and corrections are one, how they are stored, and the tag, one number for both.
 // All functions are internal to this library's crates.
+#![tactic(auto)]
+
 ghost use Rattle.std.specs.Prelude.{◌≡◌, true, map, ◌^◌, ◌≤◌, ◌<◌, length, pos, ◌+ℤ◌, ◌-ℤ◌};
 ghost use Rattle.lists.specs.Lists.{every, overwrite};
 ghost use Rattle.measure.specs.Measure.{greatest_length, greatest_correction, least_correction, lies_z, is_measure, measure_from, measures_beside};

@@ -1,4 +1,6 @@
 // Prints the pages of what the image on standard input holds.
+#![tactic(auto)]
+
 use image_programs::Kind;
 
 fn main() {

@@ -1,4 +1,6 @@
 // The size of a last in Paris points: whole half points, and the signed rest. All functions are internal to this library's crates.
+#![tactic(auto)]
+
 ghost use Rattle.std.specs.Prelude.{◌≡◌, true, ◌≢◌, ◌*◌, ◌≤◌, pos};
 ghost use Rattle.measure.specs.Measure.{lies_z};
 ghost use Rattle.measure.specs.Tag.{length_in, measure_at, is_tag};

@@ -1,5 +1,7 @@
 // The priority and the home of a key, as document 01 defines them in "Priority" and "The table's words", under a salt (document 02, N9).
 // Assumes nothing.
+#![tactic(auto)]
+
 ghost use Rattle.std.specs.Prelude.{◌≡◌, ◌<◌, ◌≤◌, length};
 ghost use Rattle.priority.specs.Priority.{HoldsConstants, priority_of, priority_with, priorities_over, home_of};
 

@@ -1,6 +1,8 @@
 // Runs the calls: first on the figures of documents 01 and 02, then loads, then a session on three slots in which keys come with measures and
 // without, are looked up alone and together, a range is read at once and key by key and an image is written, read and listed and pages
 // are printed, then a table with a salt, then over words that are no table and a table that is not sound, and last sizes in Paris points. Every refusal of every call is met.
+#![tactic(auto)]
+
 use index::Place;
 
 mod calls;

@@ -1,4 +1,5 @@
 // The numbers of a table's layout, for the crates whose code reads or writes its words; `specs/Layout` has the same by name.
+#![tactic(auto)]
 
 // The words before the first slot.
 pub const HEADER_WORDS: usize = 4;

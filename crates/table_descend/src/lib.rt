@@ -1,4 +1,6 @@
 // The way down the treap of a sound table to a key.
+#![tactic(auto)]
+
 ghost use Rattle.std.specs.Prelude.{true, ◌≡◌, pred, ◌<◌, ◌≤◌, length};
 ghost use Rattle.lists.specs.Lists.{member};
 ghost use Rattle.priority.specs.Priority.{HoldsConstants};

@@ -1,4 +1,6 @@
 // Writing the words of a table from the columns of its keys and their tags, and comparing a table with them.
+#![tactic(auto)]
+
 ghost use Rattle.std.specs.Prelude.{◌≡◌, ◌+◌, ◌≤◌, length, take, drop};
 ghost use Rattle.lists.specs.Lists.{overwrite, same, All};
 ghost use Rattle.table.specs.Layout.{table_words, slot_words};

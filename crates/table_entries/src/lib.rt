@@ -1,4 +1,6 @@
 // The entries of a sound table: whether it holds a key, in which slot, and what the words of the slot say.
+#![tactic(auto)]
+
 ghost use Rattle.std.specs.Prelude.{true, ◌≡◌, ◌+◌, ◌<◌, ◌≤◌, length, get_or};
 ghost use Rattle.lists.specs.Lists.{member};
 ghost use Rattle.priority.specs.Priority.{HoldsConstants};

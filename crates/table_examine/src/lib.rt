@@ -1,5 +1,7 @@
 // Examining a table: its keys and the tags of their measures are read and sorted, and its words compared with those of its
 // order, salt, keys and measures.
+#![tactic(auto)]
+
 ghost use Rattle.std.specs.Prelude.{◌≡◌, ◌<◌, ◌≤◌, length, true, cond};
 ghost use Rattle.lists.specs.Lists.{overwrite, rises_b};
 ghost use Rattle.priority.specs.Priority.{HoldsConstants};

@@ -1,4 +1,6 @@
 // Finding the slot of a key. Assumes nothing of the words.
+#![tactic(auto)]
+
 ghost use Rattle.std.specs.Prelude.{◌≡◌, ◌<◌, ◌≤◌, length};
 ghost use Rattle.table.specs.Layout.{table_words};
 ghost use Rattle.table_find.specs.Find.{scanned, searched};

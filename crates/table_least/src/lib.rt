@@ -1,4 +1,6 @@
 // Seeking the least key of a range among the slots of a table.
+#![tactic(auto)]
+
 ghost use Rattle.std.specs.Prelude.{◌≡◌, ◌≤◌, length};
 ghost use Rattle.table.specs.Layout.{table_words};
 ghost use Rattle.table.specs.Table.{contents_of};

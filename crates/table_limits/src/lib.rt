@@ -1,4 +1,6 @@
 // Which numbers of words and which orders a table has.
+#![tactic(auto)]
+
 ghost use Rattle.std.specs.Prelude.{◌≡◌};
 ghost use Rattle.table.specs.Contents.{table_order, new_order};
 ghost use Rattle.table_limits.specs.Lengths.{slots_for};

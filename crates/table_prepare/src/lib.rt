@@ -1,4 +1,6 @@
 // What a table is written from, out of its order, salt and keys: priorities, columns and slots.
+#![tactic(auto)]
+
 ghost use Rattle.std.specs.Prelude.{◌≡◌, map, ◌<◌, ◌≤◌, length, take};
 ghost use Rattle.priority.specs.Priority.{HoldsConstants, priority_with};
 ghost use Rattle.sorting.specs.ByWeight.{by_weight};

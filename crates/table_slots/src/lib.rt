@@ -1,4 +1,6 @@
 // Placing positions in the slots of a table.
+#![tactic(auto)]
+
 ghost use Rattle.std.specs.Prelude.{◌≢◌, ◌≡◌, ◌<◌, ◌≤◌, length, replicate, set};
 ghost use Rattle.treap.specs.Slots.{first_empty, slots_of};
 ghost use Rattle.priority.specs.Priority.{home_of};

@@ -1,5 +1,7 @@
 // Writing text into a lent output at an index: bytes, spaces, and numbers in base ten, alone or in a column, or as sixteen hexadecimal digits. Each function
 // answers the index after what it wrote. Internal to this library's crates: their outputs have room for it.
+#![tactic(auto)]
+
 ghost use Rattle.std.specs.Prelude.{◌≡◌, ◌+◌, ◌<◌, ◌≤◌, length};
 ghost use Rattle.text.specs.Digits.{digits, decimal, hexadecimal};
 ghost use Rattle.text.specs.Digits.{digit as Digits·digit};

@@ -1,5 +1,7 @@
 // The lines of a listing: how long each is, and writing it into a lent output at an index. Internal to this library's crates:
 // their outputs have room for it. A function that writes answers the index after the line.
+#![tactic(auto)]
+
 ghost use Rattle.std.specs.Prelude.{◌≡◌, ◌++◌, ◌+◌, ◌≤◌, length};
 ghost use Rattle.text.specs.Digits.{decimal, hexadecimal};
 ghost use Rattle.text.specs.Written.{Written};

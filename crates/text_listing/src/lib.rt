@@ -1,4 +1,6 @@
 // The text that lists an image: one line for the header, each block and each key, written into a lent output.
+#![tactic(auto)]
+
 mod lengths;
 
 ghost use Rattle.std.specs.Prelude.{◌≡◌, true, min, ◌+◌, ◌*◌, ◌≤◌, ◌<◌, length, drop};

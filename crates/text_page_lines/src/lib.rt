@@ -1,5 +1,7 @@
 // The lines of printed pages, written into a lent output at an index. Internal to this library's crates: their outputs have room for it.
 // Each function answers the index after what it wrote.
+#![tactic(auto)]
+
 ghost use Rattle.std.specs.Prelude.{true, ◌≡◌, ◌+◌, ◌<◌, ◌≤◌, length};
 ghost use Rattle.measure.specs.Tag.{measure_at, is_tag};
 ghost use Rattle.paris_points.specs.Points.{size_of};

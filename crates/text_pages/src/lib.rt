@@ -1,5 +1,7 @@
 // The printed pages of keys, written into a lent output. Beside the keys stand the tags of their measures, their ranks, their counts and their
 // leaders, these as positions.
+#![tactic(auto)]
+
 ghost use Rattle.std.specs.Prelude.{◌≡◌, min, ◌+◌, ◌<◌, ◌≤◌, length};
 ghost use Rattle.table.specs.Layout.{most_slots};
 ghost use Rattle.text.specs.Written.{Written};

@@ -1,4 +1,6 @@
 // The column of leaders, each position's from that of its parent, the outranking positions first.
+#![tactic(auto)]
+
 ghost use Rattle.std.specs.Prelude.{◌≡◌, ◌++◌, ◌≤◌, ◌<◌, length, take, drop};
 ghost use Rattle.treap_columns.specs.Columns.{rank_column, leader_column, most_positions, Ready};
 ghost use Rattle.treap_leaders.specs.Steps.{handed_down};

@@ -1,4 +1,6 @@
 // The treap's links over the positions of a list of weights.
+#![tactic(auto)]
+
 ghost use Rattle.std.specs.Prelude.{◌≡◌, suc, ◌<◌, ◌≤◌, length, drop};
 ghost use Rattle.lists.specs.Lists.{overwrite};
 ghost use Rattle.treap.specs.Treap.{top};

@@ -1,4 +1,6 @@
 // The columns of ranks and counts, each position's from those of its children, the outranked positions first.
+#![tactic(auto)]
+
 ghost use Rattle.std.specs.Prelude.{◌≡◌, ◌++◌, ◌≤◌, max, length, drop};
 ghost use Rattle.treap_structure.proofs.Fold.{raise as raiseStanding, count_at};
 ghost use Rattle.treap_columns.specs.Columns.{rank_column, count_column, Ready};
