@@ -1,15 +1,14 @@
 -- `measure::is_between` meets its contract. Assumes nothing.
-use mathlib.Core.Path.{◌≡◌, sym, ap₂, ◌∙◌}
+use Rattle.std.proofs.Common.{◌≡◌, sym, ap₂, ◌∙◌, w32}
 use lib.Signed.{le_z}
-use mir.Syntax.{w32}
 use mir.Val.{to_z, of_z}
 use mir.ValLaws.{to_z-of_z}
 use Rattle.measure.specs.Measure.{lies_z}
-use Rattle.measure.proofs.is_between.Statement.{statement}
-use Rattle.measure.proofs.is_between.Tie as tie
+use Rattle.measure.proofs.is_between.Goals as goal
+use Rattle.measure.proofs.is_between.Goals.{Start}
 
 -- the numbers, read back
-module _ (c : tie.Start) where
+module _ (c : Start) where
   number : to_z w32 (of_z w32 c.args.number) ≡ c.args.number
   number = to_z-of_z w32 c.args.number c.ranges.number
 
@@ -23,13 +22,14 @@ module _ (c : tie.Start) where
   first : le_z (to_z w32 (of_z w32 c.args.low)) (to_z w32 (of_z w32 c.args.number)) ≡ le_z c.args.low c.args.number
   first = ap₂ le_z low number
 
-returns : tie.Need-returns
+pub returns-then-low-number : goal.returns-then-low-number
 unfolding lies_z
-returns c = rw (sym (first c.before) ∙ c.if1.true) (ap₂ le_z (number c.before) (high c.before))
+returns-then-low-number c =
+    let start = (goal.at.returns-then-low-number c).Start in
+    rw (sym (first start) ∙ c.if-low-number.true) (ap₂ le_z (number start) (high start))
 
-returns-2 : tie.Need-returns-2
+pub returns-else-low-number : goal.returns-else-low-number
 unfolding lies_z
-returns-2 c = rw (sym (first c.before) ∙ c.if1.false) c.if1.false
-
-pub is-between-spec : {M : Type 1} → statement M
-is-between-spec = tie.close (tie.spec returns returns-2)
+returns-else-low-number c =
+    let start = (goal.at.returns-else-low-number c).Start in
+    rw (sym (first start) ∙ c.if-low-number.false) c.if-low-number.false
