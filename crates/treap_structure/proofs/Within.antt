@@ -37,7 +37,7 @@ module _ (p : ℕ → ℕ) where
 
       go : Compared v k → (member v (keys l) ≡ true → Found (subtree v l)) → (member v (keys r) ≡ true → Found (subtree v r)) → Found (subtree v (node l k r))
       go (less e f h q) left right = rw (subtree_left l k r v q) (left (sym (member_left v k (keys l) (keys r) q (greater_above p k (keys r) g.1)) ∙ m))
-      go (same e f h q) left right = (l, r, rw q (subtree_root l k r))
+      go (same e f h q) left right = (l, r, subst (λ (x : ℕ). subtree x (node l k r) ≡ node l x r) (sym q) (subtree_root l k r))
       go (more e f h q) left right = rw (subtree_right l k r v q) (right (sym (member_right v k (keys l) (keys r) q (lesser_below p k (keys l) g.0)) ∙ m))
 
   module _ (α : ℕ) where
