@@ -1,7 +1,7 @@
 -- The order of numbers by a number `f` that falls, then a number `g` that rises, then themselves, rising: it is total, transitive
 -- and goes one way only. Assumes nothing.
 use mathlib.Core.Bool.{Bool, true, false, ◌||◌, ◌&&◌}
-use mathlib.Core.Logic.{◌⊎◌, ⊎_elim}
+use mathlib.Core.Logic.{⊎_elim}
 use mathlib.Core.Path.{◌≡◌, sym, ap, ◌∙◌}
 use Prim.Native.Nat.{ℕ, ◌<◌}
 use native.Mathlib.Omega.{arith}

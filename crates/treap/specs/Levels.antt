@@ -1,8 +1,8 @@
 -- Iterated leaders, rank, count and leader (document 01, "Treap, ranks, leaders"; the paper's definitions 2 and 3 and its
 -- size and leader fields), over any order `α`, priority function `p` and rising keys `ks`. Assumes nothing.
-use Rattle.std.specs.Prelude.{Bool, true, false, cond, ◌||◌, List, [], ◌∷◌, ℕ, zero, suc, eqb, ltb, leb, length}
+use Rattle.std.specs.Prelude.{cond, ◌||◌, List, [], ℕ, zero, suc, eqb, ltb, leb, length}
 use Rattle.lists.specs.Lists.{keep, member, last, largest}
-use Rattle.treap.specs.Treap.{Tree, keys, subtree, path, top, treap}
+use Rattle.treap.specs.Treap.{keys, subtree, path, top, treap}
 
 -- "If L(i−1) has more than one key, Li is the root with those keys of the treap on L(i−1) whose subtree there,
 -- themselves counted, has at least α keys. Otherwise Li is empty."

@@ -1,6 +1,6 @@
 -- The treap of a set of keys, over any priority function `p`. A set of keys is the list of its keys, rising.
 -- Assumes nothing.
-use Rattle.std.specs.Prelude.{Bool, true, false, cond, ◌||◌, ◌&&◌, List, [], ◌∷◌, ◌++◌, ℕ, zero, suc, eqb, ltb, length}
+use Rattle.std.specs.Prelude.{Bool, cond, ◌||◌, ◌&&◌, List, [], ◌∷◌, ◌++◌, ℕ, zero, suc, eqb, ltb, length}
 use Rattle.lists.specs.Lists.{keep, every, first}
 
 -- A binary tree of keys.

@@ -1,17 +1,16 @@
 -- An `InOrder` list is the positions in outranking order, less one. Assumes nothing.
-use mathlib.Core.Bool.{Bool, true, false}
+use mathlib.Core.Bool.{true}
 use mathlib.Core.List.Permᴰ
-use mathlib.Core.List.{List, [], ◌∷◌, map, Permᴰ}
-use mathlib.Core.Logic.{◌≢◌}
-use mathlib.Core.Path.{◌≡◌, refl, sym, ap, ◌∙◌, subst}
-use Prim.Native.Nat.{ℕ, zero, suc, ◌+◌, ◌<◌, ◌≤◌}
+use mathlib.Core.List.{List, map, Permᴰ}
+use mathlib.Core.Path.{◌≡◌, subst}
+use Prim.Native.Nat.{ℕ, suc, ◌<◌}
 use native.Mathlib.Omega.{arith}
 use lib.ListN.{length}
-use Rattle.lists.specs.Lists.{All, Pairwise, member, up_from, sort_by}
+use Rattle.lists.specs.Lists.{All, member, up_from, sort_by}
 use Rattle.lists.proofs.Keep.{all_map, all_mapped, all_always}
 use Rattle.lists.proofs.Membership.{all_member, all_of_members, member-map}
 use Rattle.lists.proofs.Pairwise.{pairwise_map, pairwise_mapped, pairwise_unique}
-use Rattle.lists.proofs.Sorting.{all_permuted, sort_by_permutes, sort_by_ordered, Before, Either}
+use Rattle.lists.proofs.Sorting.{all_permuted, sort_by_permutes, sort_by_ordered, Either}
 use Rattle.lists.proofs.UpFrom.{up_from_rising, up_from-member, up_from_shifted}
 use Rattle.treap.specs.Treap.{outranks}
 use Rattle.treap_structure.proofs.Outranking.{outranks_one_way, outranks_trans, outranks_total}

@@ -1,15 +1,14 @@
 -- Where a leader stands: it is an ancestor of higher rank, and no deeper ancestor has a rank as high. Keys of one rank on
 -- one path share their leader. Assumes an order of at least 2 and rising keys.
-use mathlib.Core.Bool.{Bool, true, false, cond, ◌||◌, ◌&&◌}
+use mathlib.Core.Bool.{Bool, true, false, cond}
 use mathlib.Core.List.{List, [], ◌∷◌, ◌++◌, append-nil}
-use mathlib.Core.Logic.{◌⊎◌, ◌≢◌, inl, inr, ⊎_elim}
-use mathlib.Core.Path.{◌≡◌, refl, sym, ap, ap₂, ◌∙◌, subst}
-use Prim.Native.Nat.{ℕ, zero, suc, ◌+◌, ◌<◌, ◌≤◌}
-use native.Mathlib.Omega.{arith}
+use mathlib.Core.Logic.{◌≢◌}
+use mathlib.Core.Path.{◌≡◌, refl, sym, ap, ◌∙◌, subst}
+use Prim.Native.Nat.{ℕ, ◌<◌, ◌≤◌}
 use lib.Dec.{eqb, ltb}
 use borrow.Author.Tests.{ltb-true, le-ltb, lt-ltb}
 use Rattle.lists.specs.Lists.{cons_if, keep, member, last, All, Rising}
-use Rattle.lists.proofs.Tests.{Compared, compared, by_test, true_or_false}
+use Rattle.lists.proofs.Tests.{Compared, compared, true_or_false}
 use Rattle.lists.proofs.Tests.Compared.{less, same, more}
 use Rattle.lists.proofs.Keep.{all_map, all_both, all_append_right, all_keep, kept_pass, keep_append, keep_none}
 use Rattle.lists.proofs.Membership.{all_member, all_of_members, last-member}

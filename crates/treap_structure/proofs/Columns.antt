@@ -1,16 +1,16 @@
 -- The columns of a table in rising order of keys, as flattenings of the treap: links, ranks, counts, leaders.
 -- Assumes an order of at least 2 and rising keys.
-use mathlib.Core.Bool.{Bool, true, false, cond}
+use mathlib.Core.Bool.{true, false, cond}
 use mathlib.Core.List.{List, [], ◌∷◌, ◌++◌, map, map-append}
-use mathlib.Core.Logic.{◌⊎◌, ◌≢◌, inl, inr, ⊎_elim}
+use mathlib.Core.Logic.{◌≢◌}
 use mathlib.Core.Path.{◌≡◌, refl, sym, ap, ap₂, ◌∙◌, subst}
-use Prim.Native.Nat.{ℕ, zero, suc, ◌+◌, ◌<◌, ◌≤◌}
+use Prim.Native.Nat.{ℕ, ◌<◌, ◌≤◌}
 use native.Mathlib.Omega.{arith}
 use lib.Dec.{eqb, ltb}
 use borrow.Author.Tests.{eqb-true, eqb-false}
-use Rattle.lists.specs.Lists.{member, All, Rising}
+use Rattle.lists.specs.Lists.{member, Rising}
 use Rattle.lists.proofs.Tests.{by_test, true_or_false}
-use Rattle.lists.proofs.Keep.{all_map, map_same}
+use Rattle.lists.proofs.Keep.{map_same}
 use Rattle.lists.proofs.Membership.{all_member, all_of_members}
 use Rattle.treap.specs.Treap.{Tree, keys, root_key, left_of, right_of, subtree, treap, left_link, right_link}
 use Rattle.treap.specs.Treap.Tree.{leaf, node}
@@ -20,7 +20,7 @@ use Rattle.treap_structure.proofs.Subtrees.{inside, good_subtree, subtree_root, 
 use Rattle.treap_structure.proofs.Fold.{Standing, standing, root_standing}
 use Rattle.treap_structure.proofs.Ranks.{standing_in, standing_root, standing_other, rank_is, count_is}
 use Rattle.treap_structure.proofs.Paths.{subtree_below, not_root_below, left_member, right_member}
-use Rattle.treap_structure.proofs.Leaders.{treap_member, member_treap, leader_of_left, leader_of_right, leader_of_root}
+use Rattle.treap_structure.proofs.Leaders.{treap_member, leader_of_left, leader_of_right, leader_of_root}
 
 module _ {A : Type 0} where
   -- A value of each subtree, in the order of the keys.

@@ -1,23 +1,21 @@
 -- The leader rule, from the root down: a key's leader is its parent where that has a higher rank, else the parent's
 -- leader; the root has none. Assumes an order of at least 2 and rising keys.
-use mathlib.Core.Bool.{Bool, true, false, cond, ◌||◌, ◌&&◌}
+use mathlib.Core.Bool.{true, cond}
 use mathlib.Core.List.{List, [], ◌∷◌, ◌++◌, append-nil}
-use mathlib.Core.Logic.{◌⊎◌, ◌≢◌, inl, inr, ⊎_elim}
-use mathlib.Core.Path.{◌≡◌, refl, sym, ap, ap₂, ◌∙◌, subst}
-use Prim.Native.Nat.{ℕ, zero, suc, ◌+◌, ◌<◌, ◌≤◌}
+use mathlib.Core.Path.{◌≡◌, refl, sym, ap, ◌∙◌, subst}
+use Prim.Native.Nat.{ℕ, suc, ◌<◌, ◌≤◌}
 use native.Mathlib.Omega.{arith}
-use lib.Dec.{eqb, ltb, leb}
-use borrow.Author.Tests.{ltb-true, ltb-false, le-ltb}
-use Rattle.lists.specs.Lists.{cons_if, keep, member, last, All, Rising}
-use Rattle.lists.proofs.Tests.{by_test, true_or_false}
+use lib.Dec.{ltb}
+use borrow.Author.Tests.{ltb-false, le-ltb}
+use Rattle.lists.specs.Lists.{cons_if, keep, member, last, Rising}
+use Rattle.lists.proofs.Tests.{by_test}
 use Rattle.lists.proofs.Keep.{all_map, keep_append, keep_same}
 use Rattle.lists.proofs.Membership.{all_member, last_snoc}
-use Rattle.treap.specs.Treap.{Tree, keys, root_key, subtree, path, treap}
-use Rattle.treap.specs.Treap.Tree.{leaf, node}
+use Rattle.treap.specs.Treap.{Tree, keys, subtree, path, treap}
+use Rattle.treap.specs.Treap.Tree.{node}
 use Rattle.treap.specs.Levels.{level, rank, leader}
 use Rattle.treap_structure.proofs.Shape.{keys_root, Good, lesser_below, greater_above, treap_keys, treap_good}
 use Rattle.treap_structure.proofs.Subtrees.{inside, good_subtree, path_root, path_left, path_right}
-use Rattle.treap_structure.proofs.Within.{subtree_of_key}
 use Rattle.treap_structure.proofs.Ranks.{in_level_to_rank, rank_falls}
 use Rattle.treap_structure.proofs.Paths.{above, left_member, right_member, path_in_tree, path_below}
 

@@ -1,19 +1,18 @@
 -- Pruning: dropping from a tree every key whose subtree has fewer than α keys. Levels are pruned trees with the root
 -- kept, and the treap of a level is that tree. Assumes nothing.
-use mathlib.Core.Bool.{Bool, true, false, cond, ◌||◌, ◌&&◌}
+use mathlib.Core.Bool.{Bool, true, false, cond, ◌||◌}
 use mathlib.Core.List.{List, [], ◌∷◌, ◌++◌}
-use mathlib.Core.Logic.{◌⊎◌, ◌≢◌, inl, inr, ⊎_elim}
-use mathlib.Core.Path.{◌≡◌, refl, sym, ap, ap₂, ◌∙◌, subst}
+use mathlib.Core.Path.{◌≡◌, refl, sym, ap, ap₂, ◌∙◌}
 use Prim.Native.Nat.{ℕ, zero, suc, ◌+◌, ◌<◌, ◌≤◌}
 use native.Mathlib.Omega.{arith}
 use lib.Dec.{eqb, ltb, leb}
 use lib.ListN.{length}
-use borrow.Author.Tests.{leb-true, leb-false, lt-leb, le-leb, ltb-true, ltb-false, ne_eqb}
-use Rattle.lists.specs.Lists.{cons_if, keep, member, All, Rising}
+use borrow.Author.Tests.{leb-true, leb-false, lt-leb, le-leb, ne_eqb}
+use Rattle.lists.specs.Lists.{cons_if, keep, All, Rising}
 use Rattle.lists.proofs.Tests.{by_test, or_true_left}
 use Rattle.lists.proofs.Keep.{all_map, all_always, all_both, all_append, all_append_left, all_append_right, keep_append, keep_none, keep_same}
 use Rattle.lists.proofs.Membership.{eqb_same}
-use Rattle.treap.specs.Treap.{Tree, keys, subtree, top, treap}
+use Rattle.treap.specs.Treap.{Tree, keys, subtree, treap}
 use Rattle.treap.specs.Treap.Tree.{leaf, node}
 use Rattle.treap.specs.Levels.{next_level, level}
 use Rattle.treap_structure.proofs.Shape.{size, length_keys, Lesser, Greater, Good, lesser_below, greater_above, top_of_good, treap_unique, treap_keys, treap_good}

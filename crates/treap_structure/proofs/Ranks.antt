@@ -1,15 +1,15 @@
 -- A key is in Li exactly up to its rank; ranks and counts are those of the fold, the root's those of its own rule.
 -- Assumes an order of at least 2 and rising keys.
-use mathlib.Core.Bool.{Bool, true, false, cond, ◌||◌, ◌&&◌}
-use mathlib.Core.List.{List, [], ◌∷◌, ◌++◌}
+use mathlib.Core.Bool.{Bool, true, false, cond, ◌&&◌}
+use mathlib.Core.List.{List}
 use mathlib.Core.Logic.{◌⊎◌, ◌≢◌, inl, inr, ⊎_elim}
-use mathlib.Core.Path.{◌≡◌, refl, sym, ap, ap₂, ◌∙◌, subst}
+use mathlib.Core.Path.{◌≡◌, refl, sym, ap, ◌∙◌, subst}
 use Prim.Native.Nat.{ℕ, zero, suc, max, ◌+◌, ◌<◌, ◌≤◌}
 use native.Mathlib.Omega.{arith}
 use lib.Dec.{eqb, ltb, leb}
 use lib.ListN.{length}
 use borrow.Author.Tests.{leb-true, leb-false, lt-leb, le-leb, lt-ltb, le-ltb, ltb-true, ltb-false, ne_eqb, eqb-true, eqb-false}
-use Rattle.lists.specs.Lists.{keep, member, largest, All, Rising}
+use Rattle.lists.specs.Lists.{keep, member, Rising}
 use Rattle.lists.proofs.Tests.{Compared, compared, by_test, true_or_false, and_left, and_right, and_both}
 use Rattle.lists.proofs.Tests.Compared.{less, same, more}
 use Rattle.lists.proofs.Keep.{keep_all}
@@ -20,9 +20,9 @@ use Rattle.treap.specs.Treap.{Tree, keys, root_key, subtree, treap}
 use Rattle.treap.specs.Treap.Tree.{leaf, node}
 use Rattle.treap.specs.Levels.{level, rank, count}
 use Rattle.treap_structure.proofs.Shape.{size, length_keys, keys_root, Good, good_rising, lesser_below, greater_above, treap_keys, treap_good, treap_size}
-use Rattle.treap_structure.proofs.Subtrees.{inside, some_key, subtree_root, subtree_left, subtree_right, subtree_cases, size_subtree, all_subtree, member_left, member_right}
+use Rattle.treap_structure.proofs.Subtrees.{inside, some_key, subtree_root, subtree_left, subtree_right, size_subtree, all_subtree, member_left, member_right}
 use Rattle.treap_structure.proofs.Prune.{pruned, good_pruned, lead, level_tree, all_led, level_is_led}
-use Rattle.treap_structure.proofs.Fold.{Standing, standing, root_standing, raise, Over, pruned_leaf, pruned_over, level_tree_over, Stands, standing_stands, outlasts, pruned_away, standing_rank_size, root_rank_size, subtree_rank, root_rank_left, root_rank_right}
+use Rattle.treap_structure.proofs.Fold.{Standing, standing, root_standing, Over, pruned_leaf, pruned_over, level_tree_over, standing_stands, outlasts, pruned_away, standing_rank_size, root_rank_size, subtree_rank, root_rank_left, root_rank_right}
 use Rattle.treap_structure.proofs.Within.{subtree_of_key, all_pruned, within, within_left, within_right, within_pruned}
 use Rattle.treap_structure.proofs.Paths.{subtree_below, not_root_below}
 

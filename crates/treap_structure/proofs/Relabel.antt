@@ -1,10 +1,9 @@
 -- Keys renamed in their order, priorities kept: the treap, ranks and counts stay, links and leaders are renamed.
 -- Assumes an order of at least 2 where ranks are concerned, and rising keys.
 use mathlib.Core.Bool.{Bool, true, false, cond, ◌||◌, ◌&&◌}
-use mathlib.Core.List.{List, [], ◌∷◌, ◌++◌, map, map-append, map-map}
-use mathlib.Core.Logic.{◌⊎◌, ◌≢◌, ⊎_elim}
+use mathlib.Core.List.{List, ◌∷◌, ◌++◌, map, map-append}
 use mathlib.Core.Path.{◌≡◌, refl, sym, ap, ap₂, ◌∙◌, subst}
-use Prim.Native.Nat.{ℕ, zero, suc, max, ◌+◌, ◌<◌, ◌≤◌}
+use Prim.Native.Nat.{ℕ, suc, max, ◌+◌, ◌<◌, ◌≤◌}
 use native.Mathlib.Omega.{arith}
 use lib.Dec.{eqb, ltb}
 use borrow.Author.Tests.{lt-ltb, le-ltb}
@@ -12,7 +11,7 @@ use Rattle.lists.specs.Lists.{member, All, Rising}
 use Rattle.lists.proofs.Tests.{Compared, compared}
 use Rattle.lists.proofs.Tests.Compared.{less, same, more}
 use Rattle.lists.proofs.Keep.{all_map, all_mapped, all_both, all_append_left, all_append_right}
-use Rattle.lists.proofs.Membership.{all_of_members, all_member}
+use Rattle.lists.proofs.Membership.{all_of_members}
 use Rattle.lists.proofs.Pairwise.{pairwise_map, pairwise_mapped}
 use Rattle.treap.specs.Treap.{Tree, keys, root_key, left_of, right_of, outranks, top, treap, left_link, right_link}
 use Rattle.treap.specs.Treap.Tree.{leaf, node}

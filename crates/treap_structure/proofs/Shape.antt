@@ -1,17 +1,17 @@
 -- A heap-ordered search tree is determined by its keys, and the treap of rising keys is the one for them. Assumes nothing.
-use mathlib.Core.Bool.{Bool, true, false, cond, ◌||◌, ◌&&◌}
+use mathlib.Core.Bool.{Bool, true, false, ◌||◌}
 use mathlib.Core.List.{List, [], ◌∷◌, ◌++◌}
-use mathlib.Core.Logic.{◌⊎◌, ◌≢◌, inl, inr, ⊎_elim}
+use mathlib.Core.Logic.{◌≢◌, ⊎_elim}
 use mathlib.Core.Path.{◌≡◌, refl, sym, ap, ap₂, ◌∙◌, subst}
 use Prim.Native.Nat.{ℕ, zero, suc, ◌+◌, ◌<◌, ◌≤◌}
 use native.Mathlib.Omega.{arith}
 use lib.Dec.{eqb, ltb}
 use lib.ListN.{length, length-append}
 use borrow.Author.Tests.{ltb-true, eqb-true, ne_eqb}
-use Rattle.lists.specs.Lists.{keep, every, first, member, All, Rising}
+use Rattle.lists.specs.Lists.{keep, every, member, All, Rising}
 use Rattle.lists.proofs.Tests.{by_test, true_or_false, or_true_cases, or_true_left, or_true_right, or_both_false}
 use Rattle.lists.proofs.Keep.{all_map, all_append, all_both, all_keep, kept_pass, every_when, every_says}
-use Rattle.lists.proofs.Membership.{eqb_same, all_member, all_of_members, member-append, first_at, first_passes}
+use Rattle.lists.proofs.Membership.{eqb_same, all_member, member-append, first_at, first_passes}
 use Rattle.lists.proofs.Pairwise.{pairwise_keep}
 use Rattle.lists.proofs.Rising.{rising_join, keep_below, keep_above, rising_split}
 use Rattle.treap.specs.Treap.{Tree, keys, outranks, outranks_rest, top, treap_to, treap}

@@ -1,5 +1,5 @@
 -- Parts of a function's body that a walk goes on with. Assumes nothing.
-use mir.Syntax.{Body, skip, seq, assign, block, loop, cond, switch, exit, return, call}
+use mir.Syntax.{Body, skip, seq, assign, block, loop, cond, switch, exit, return, unreachable, call, call_v, lend_static}
 
 -- what comes after the first part of a body
 abbrev pub after : Body → Body
@@ -12,7 +12,10 @@ after (cond c a b) = skip
 after (switch c arms) = skip
 after (exit n) = skip
 after return = skip
+after unreachable = skip
 after (call f xs d) = skip
+after (call_v f at xs d) = skip
+after (lend_static p t c) = skip
 
 -- what a branch does where its test holds
 abbrev pub taken : Body → Body
@@ -25,4 +28,7 @@ taken (cond c a b) = a
 taken (switch c arms) = skip
 taken (exit n) = skip
 taken return = skip
+taken unreachable = skip
 taken (call f xs d) = skip
+taken (call_v f at xs d) = skip
+taken (lend_static p t c) = skip

@@ -1,5 +1,5 @@
 -- `intervals::copy_within` meets its contract. Assumes nothing.
-use Rattle.std.proofs.Common.{ℕ, ◌≡◌, ◌<◌, ◌≤◌, List, length, take, get_or, refl, add-one, arith, sym, ◌∙◌}
+use Rattle.std.proofs.Common.{ℕ, ◌<◌, ◌≤◌, List, length, take, get_or, refl, add-one, arith, sym, ◌∙◌}
 use mathlib.Core.Path.{subst₃}
 use Rattle.lists.specs.Lists.{lies}
 use Rattle.lists.proofs.Copying.{kept, Copied, copied_none, copied_all, copied_size, copied_room, copied_more, copied_same}
