@@ -2,11 +2,7 @@
 -- Assumes nothing.
 use mathlib.Core.Path.{refl}
 use Rattle.priority.proofs.Table.{holds_constants}
-use Rattle.priority.proofs.constant_table.Statement.{statement}
-use Rattle.priority.proofs.constant_table.Tie as tie
+use Rattle.priority.proofs.constant_table.Goals as goal
 
-returns : tie.Need-returns
+pub returns : goal.returns
 returns c = holds_constants _ refl refl
-
-pub constant-table-spec : {M : Type 1} → statement M
-constant-table-spec = tie.close (tie.spec returns)
