@@ -8,7 +8,6 @@ use native.Mathlib.Omega.{arith}
 use lib.ListN.{length, get_or, set, take, drop}
 use lib.Seq.{take_all, length-take-le}
 use borrow.Author.Tests.{lt-ltb, le-ltb}
-use Rattle.treap.specs.Levels.{rank, leader}
 use Rattle.treap_columns.specs.Columns.{rank_column, leader_column, Ready}
 use Rattle.treap_leaders.specs.Steps.{handed_down}
 use Rattle.treap_columns.proofs.Filled.{Kept, kept_store, column_at}
