@@ -77,8 +77,14 @@ module _ (α : ℕ) (weights : List ℕ) where
       → standing_in α t u ≡ raise_root (size t) (standing α (left_of (subtree u t))) (standing α (right_of (subtree u t)))
   root_rule leaf u e some = absurd (omega arith)
   root_rule (node l k r) u e some =
-      rw (e, subtree_root l k r, standing_root α l k r)
-      (ap (λ b. record { rank = cond b (suc (max (standing α l).rank (standing α r).rank)) 0; count = 1 }) (has_child (size l) (size r)))
+      let Rule : ℕ → Type 0 =
+      λ (x : ℕ). standing_in α (node l k r) x
+      ≡ raise_root (size (node l k r)) (standing α (left_of (subtree x (node l k r)))) (standing α (right_of (subtree x (node l k r))))
+      in
+      subst Rule (sym e)
+      (standing_root α l k r
+      ∙ ap (λ b. record { rank = cond b (suc (max (standing α l).rank (standing α r).rank)) 0; count = 1 }) (has_child (size l) (size r))
+      ∙ sym (ap (λ (z : Tree). raise_root (size (node l k r)) (standing α (left_of z)) (standing α (right_of z))) (subtree_root l k r)))
 
   root_by_links : (i : ℕ) → suc i ≡ root_of weights
       → standing_in α (tree_of weights) (suc i) ≡ raise_root (length weights) (folded (left_child weights i)) (folded (right_child weights i))
