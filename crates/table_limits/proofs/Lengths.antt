@@ -1,13 +1,12 @@
 -- The number of slots by a table's length. Assumes nothing.
-use mathlib.Core.Bool.{Bool, true, false}
-use mathlib.Core.List.{List}
+use mathlib.Core.Bool.{Bool, false}
 use mathlib.Core.Logic.{◌≢◌}
-use mathlib.Core.Path.{◌≡◌, refl, sym, ap, ◌∙◌}
-use Prim.Native.Nat.{ℕ, zero, suc, ◌+◌, ◌*◌, ◌<◌, ◌≤◌}
+use mathlib.Core.Path.{◌≡◌}
+use Prim.Native.Nat.{ℕ, ◌+◌, ◌<◌, ◌≤◌}
 use native.Mathlib.Omega.{arith}
 use lib.Dec.{eqb}
 use borrow.Author.Tests.{eqb-true, eq-eqb, ne_eqb}
-use Rattle.lists.specs.Lists.{first, up_from, All, member}
+use Rattle.lists.specs.Lists.{first, up_from}
 use Rattle.lists.proofs.Keep.{all_map}
 use Rattle.lists.proofs.Membership.{first_passes, first_none, first_found}
 use Rattle.lists.proofs.UpFrom.{up_from-member, up_from_within}
