@@ -1,0 +1,14 @@
+-- `image_blocks::runs::run_end` meets its contract. The loop's invariant: the list has one weight from `low` up to `high`. Assumes nothing.
+use mathlib.Core.Path.{◌∙◌}
+use Rattle.image_blocks.proofs.Ending.{ended_by_other, ended_by_end}
+use Rattle.image_blocks.proofs.runs.run_end.Goals as goal
+
+pub returns-then-weight_of-weight : goal.returns-then-weight_of-weight
+returns-then-weight_of-weight c =
+    let loop = c.loop-high in
+    ended_by_other c.args.weights.now c.args.sorted.now c.args.low _ loop.high loop.invariant (λ e. c.if-weight_of-weight.true (c.weight_of.ensures ∙ e))
+
+pub returns : goal.returns
+returns c =
+    let loop = c.loop-high in
+    ended_by_end c.args.weights.now c.args.sorted.now c.args.low _ loop.high loop.invariant c.loop-high-test.false
