@@ -1,22 +1,22 @@
 -- The test of `judge` decides soundness: a table of 64-bit words passes exactly when its words are those of some order, some salt and some
 -- set of keys. Assumes that the words are 64-bit numbers, as lent words are.
-use mathlib.Core.Bool.{Bool, true, false, ◌&&◌, not}
+use mathlib.Core.Bool.{true, false, not}
 use mathlib.Core.List.{List}
 use mathlib.Core.Logic.{◌≢◌}
 use mathlib.Core.Path.{◌≡◌, refl, sym, ap, ◌∙◌}
-use Prim.Native.Nat.{ℕ, ◌≤◌}
+use Prim.Native.Nat.{ℕ}
 use native.Mathlib.Omega.{arith}
 use lib.Dec.{eqb}
 use lib.ListN.{length}
 use borrow.Author.Tests.{eq-eqb, ne_eqb}
 use Rattle.lists.proofs.Tests.{true_or_false, and_left, and_right, and_both}
-use Rattle.table.specs.Layout.{most_slots, table_words}
-use Rattle.table.specs.Table.{fresh, Sound}
+use Rattle.table.specs.Layout.{table_words}
+use Rattle.table.specs.Table.{Sound}
 use Rattle.table.specs.Sound.{sound_with}
 use Rattle.table.proofs.Words.{fresh_length}
 use Rattle.table.proofs.Soundness.{WordSized, sound_says, sound_when}
 use Rattle.table_limits.specs.Lengths.{slots_for}
-use Rattle.table_limits.proofs.Lengths.{SlotsOf, slots_for_is, slots_for_some}
+use Rattle.table_limits.proofs.Lengths.{slots_for_is, slots_for_some}
 use Rattle.table_judge.specs.Judge.{is_sound}
 
 module _ (words : List ℕ) where
