@@ -43,9 +43,12 @@ AboutKeys ops = All (λ operation. IsKey (key_of operation)) ops
 is_key : (key : ℕ) → IsLoadKey key → IsKey key
 is_key key h = omega arith
 
+all_keys : (count s : ℕ) → AboutKeys (operations s count)
+all_keys zero s = tt
+all_keys (suc count) s = (is_key _ (chosen_key _), all_keys count _)
+
 pub operations_keys : (s count : ℕ) → AboutKeys (operations s count)
-operations_keys s zero = tt
-operations_keys s (suc count) = (is_key _ (chosen_key _), operations_keys _ count)
+operations_keys s count = all_keys count s
 
 -- ---- sets
 -- The order, the salt and the set of a table, with what operations make of the set.
