@@ -1,0 +1,26 @@
+-- `table_least::least_within` meets its contract. The loop's invariant: the least key of the slots passed. Assumes nothing.
+use mathlib.Core.Path.{sym, ap, ◌∙◌}
+use Prim.Native.Nat.{ℕ}
+use native.Mathlib.Numerals.{add-one}
+use Rattle.table.specs.Layout.{key_in}
+use Rattle.table.specs.Table.{contents_of}
+use Rattle.table_least.specs.LeastKey.{least_within, lesser}
+use Rattle.table_least.proofs.Least.{least_none, least_more}
+use borrow.Author.Rules.{rules}
+use Rattle.table.specs.Contents.{keys_in}
+use Rattle.table_least.proofs.least_within.Goals as goal
+
+pub loop-slot-init : goal.loop-slot-init
+loop-slot-init c = let args = c.args in (search rules, least_none args.table.now args.low args.high)
+
+pub loop-slot-preserved : goal.loop-slot-preserved
+loop-slot-preserved c =
+    let loop = c.loop-slot in
+    let words = c.args.table.now in
+    let low = c.args.low in
+    let high = c.args.high in (
+      search rules,
+      c.lesser_of-least.ensures
+          ∙ ap (λ (least : ℕ). lesser low high least (key_in words loop.slot)) loop.invariant.1
+          ∙ sym (ap (λ (slot : ℕ). least_within low high (keys_in (contents_of slot words))) (add-one loop.slot) ∙ least_more words loop.slot low high),
+    )
