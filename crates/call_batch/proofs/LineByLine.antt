@@ -1,9 +1,10 @@
 -- Answering a batch one line on: what is left to answer from a line on, against what is left from the next. Assumes nothing.
 use mathlib.Core.Path.{◌≡◌, refl, sym, ap, ◌∙◌, subst}
-use Prim.Native.Nat.{ℕ, suc, ◌+◌, ◌≤◌, ◌<◌}
+use Prim.Native.Nat.{ℕ, zero, suc, ◌+◌, ◌≤◌, ◌<◌}
 use native.Mathlib.Numerals.{add-one}
-use mathlib.Core.List.{List}
-use lib.ListN.{length, get_or, drop as drop_l, drop_of_length-le}
+use native.Mathlib.Omega.{arith}
+use mathlib.Core.List.{List, [], ◌∷◌, ◌++◌, map}
+use lib.ListN.{length, get_or, set, take, drop as drop_l, drop_of_length-le}
 use lib.Seq.{drop-cons}
 use Rattle.call_batch.specs.Batch.{keys_of, answered}
 use Rattle.call_batch.specs.Answering.{line_after, line_of, progress, Ready, Askable}
@@ -39,3 +40,22 @@ module _ (words : List ℕ) (ys : List Question) (i : ℕ) (so : Progress) where
 
   pub ends : length ys ≤ i → progress words so (keys_of (drop_l i ys)) ≡ so
   ends h = ap (λ (l : List Question). progress words so (keys_of l)) (drop_of_length-le ys h)
+
+-- ---- the lines, those before a line answered
+module _ (f : Question → Question) where
+  -- the line itself is not yet
+  pub still : (ys : List Question) (i : ℕ) → get_or (map f (take i ys) ++ drop_l i ys) i none ≡ get_or ys i none
+  still [] zero = refl
+  still [] (suc i) = refl
+  still (y ∷ ys) zero = refl
+  still (y ∷ ys) (suc i) = still ys i
+
+  one_line : (ys : List Question) (i : ℕ) (v : Question) → i < length ys → v ≡ f (get_or ys i none)
+      → set (map f (take i ys) ++ drop_l i ys) i v ≡ map f (take (suc i) ys) ++ drop_l (suc i) ys
+  one_line [] i v h e = absurd (omega arith)
+  one_line (y ∷ ys) zero v h e = ap (λ (x : Question). x ∷ ys) e
+  one_line (y ∷ ys) (suc i) v h e = ap (λ (l : List Question). f y ∷ l) (one_line ys i v (omega arith) e)
+
+  pub one_more : (ys : List Question) (i : ℕ) (v : Question) → i < length ys → v ≡ f (get_or ys i none)
+      → set (map f (take i ys) ++ drop_l i ys) i v ≡ map f (take (i + 1) ys) ++ drop_l (i + 1) ys
+  one_more ys i v h e = one_line ys i v h e ∙ ap (λ (n : ℕ). map f (take n ys) ++ drop_l n ys) (sym (add-one i))

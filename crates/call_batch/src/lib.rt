@@ -26,7 +26,7 @@ pub struct Question {
 
 // What the lines answered so far leave for the next: the key, the held mark and the rank of the last, the key of the one before it, and how
 // many different blocks they met. All zeros before the first line.
-#[derive(Drop)]
+#[derive(Clone, Copy)]
 struct Progress {
     key: u64,
     held: u64,

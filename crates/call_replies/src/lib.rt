@@ -7,7 +7,7 @@ ghost use Rattle.call_replies.specs.Replies.{number_of};
 use table_descend::Standing;
 
 // Why a call was turned down.
-#[derive(Drop)]
+#[derive(Clone, Copy)]
 pub enum Refusal {
     // The number of words is no table's.
     WrongLength,
@@ -99,7 +99,7 @@ pub enum LookedUp {
 }
 
 // The answer of a batch of lookups: how many different blocks hold the keys that were compared.
-#[derive(Drop)]
+#[derive(Clone, Copy)]
 pub enum Batched {
     Blocks(usize),
     Refused(Refusal),

@@ -5,14 +5,12 @@ use mathlib.Core.Logic.{◌≢◌}
 use mathlib.Core.List.{List}
 use Prim.Native.Nat.{ℕ}
 use lib.ListN.{length}
-use borrow.Author.Tests.{not-true, not-false, eq-eqb, ne_eqb}
-use borrow.Author.Rules.{rules}
+use borrow.Author.Tests.{eq-eqb, ne_eqb}
 use Rattle.table_limits.specs.Lengths.{slots_for}
 use Rattle.call_replies.specs.declared.Refusal.TheVariants.{WrongLength, NotRising}
 use Rattle.call_replies.specs.declared.Batched.TheVariants.{Blocks, Refused}
 use Rattle.call_batch.specs.Answering.{checked}
-use Rattle.call_batch.proofs.check.Statement.{statement}
-use Rattle.call_batch.proofs.check.Tie as tie
+use Rattle.call_batch.proofs.check.Goals as goal
 
 -- ---- what each test says of the answer
 module _ (words : List ℕ) (rises : Bool) where
@@ -29,24 +27,17 @@ module _ (words : List ℕ) (rises : Bool) where
     unfolding checked
     no-refusal e = rw (ne_eqb (slots_for (length words)) 0 some, e)
 
-slots-for-requires : tie.Need-slots-for-requires
-slots-for-requires c κs = search rules
+pub returns-then-many-eq0 : goal.returns-then-many-eq0
+returns-then-many-eq0 c =
+    let args = c.args in
+    refused_length args.table.now args.rises (sym c.slots_for-many.ensures ∙ c.if-many-eq0.true)
 
-returns : tie.Need-returns
+pub returns-then-not-rises : goal.returns-then-not-rises
+returns-then-not-rises c =
+    let args = c.args in
+    refused-keys args.table.now args.rises (λ e. c.if-many-eq0.false (c.slots_for-many.ensures ∙ e)) (c.if-not-rises.true)
+
+pub returns : goal.returns
 returns c =
-    let args = c.before.before.before.args in
-    refused_length args.table.now args.rises (sym c.before.slots-for.ensures ∙ c.if1.true)
-
-returns-2 : tie.Need-returns-2
-returns-2 c =
-    let args = c.before.before.before.before.args in
-    refused-keys args.table.now args.rises (λ e. c.before.if1.false (c.before.before.slots-for.ensures ∙ e)) (not-true args.rises c.if2.true)
-
-returns-3 : tie.Need-returns-3
-returns-3 c =
-    let args = c.before.before.before.before.args in
-    no-refusal args.table.now args.rises (λ e. c.before.if1.false (c.before.before.slots-for.ensures ∙ e)) (not-false args.rises c.if2.false)
-
-pub check-spec : {M : Type 1} → statement M
-check-spec =
-    tie.close (tie.spec slots-for-requires returns returns-2 returns-3)
+    let args = c.args in
+    no-refusal args.table.now args.rises (λ e. c.if-many-eq0.false (c.slots_for-many.ensures ∙ e)) (c.if-not-rises.false)
