@@ -9,7 +9,9 @@ all: archive
 
 # rt proves what changed, and writes the archive anew.
 archive:
-	rt staticlib btreap
+	cd crates/btreap && rt lib
+	install -d $(dir $(ARCHIVE))
+	install -m 644 crates/btreap/out/libbtreap.a $(ARCHIVE)
 
 install: archive
 	install -d "$(DESTDIR)$(PREFIX)/include" "$(DESTDIR)$(PREFIX)/lib/pkgconfig"
