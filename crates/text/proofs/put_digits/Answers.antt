@@ -5,10 +5,6 @@ use lib.ListN.{set}
 use Rattle.text.proofs.Spelling.{digits_length, Spelled, spelled_more, spelled_all}
 use Rattle.text.proofs.put_digits.Goals as goal
 
--- TODO no goal today for the old `nonzero-rem-digit`
-
--- TODO no goal today for the old `nonzero-div-rest`
-
 pub loop-i-preserved : goal.loop-i-preserved
 loop-i-preserved c =
     let loop = c.loop-i in

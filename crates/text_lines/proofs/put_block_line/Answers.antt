@@ -39,22 +39,14 @@ wrote-level c = written_then (wrote-leader (goal.at.After-put_number-levelled c)
 wrote-keys : (c : After-put_number-sized) → Written c.args.output.now c.args.at (to-keys (goal.at.After-put_number-sized c).Start) c.put_number-sized.new.output c.put_number-sized.result
 wrote-keys c = written_then (wrote-level (goal.at.After-put_number-sized c).After-put_number-levelled) c.put_number-sized.ensures (room-keys (goal.at.After-put_number-sized c).Start)
 
--- TODO no goal today for the old `slice-aggregate-put-key`
-
 pub put_key-named-requires : goal.put_key-named-requires
 put_key-named-requires c = room-leader (goal.at.put_key-named-requires c).Start
-
--- TODO no goal today for the old `slice-aggregate-put-number`
 
 pub put_number-levelled-requires : goal.put_number-levelled-requires
 put_number-levelled-requires c = next_fits (wrote-leader (goal.at.put_number-levelled-requires c).After-put_key-named) (shows_number " level " c.args.level) (room-level (goal.at.put_number-levelled-requires c).Start)
 
--- TODO no goal today for the old `slice-aggregate-put-number-2`
-
 pub put_number-sized-requires : goal.put_number-sized-requires
 put_number-sized-requires c = next_fits (wrote-level (goal.at.put_number-sized-requires c).After-put_number-levelled) (shows_number " keys " c.args.keys) (room-keys (goal.at.put_number-sized-requires c).Start)
-
--- TODO no goal today for the old `slice-aggregate-put-bytes`
 
 pub put_bytes-requires : goal.put_bytes-requires
 unfolding block_line

@@ -57,32 +57,20 @@ wrote-fill c = written_then (wrote-blocks (goal.at.After-put_number-filled c).Af
 wrote-root : (c : After-put_key-rooted) → Written c.args.output.now c.args.at (to-root (goal.at.After-put_key-rooted c).Start) c.put_key-rooted.new.output c.put_key-rooted.result
 wrote-root c = written_then (wrote-fill (goal.at.After-put_key-rooted c).After-put_number-filled) c.put_key-rooted.ensures (room-root (goal.at.After-put_key-rooted c).Start)
 
--- TODO no goal today for the old `slice-aggregate-put-number`
-
 pub put_number-ordered-requires : goal.put_number-ordered-requires
 put_number-ordered-requires c = room-order (goal.at.put_number-ordered-requires c).Start
-
--- TODO no goal today for the old `slice-aggregate-put-number-2`
 
 pub put_number-sized-requires : goal.put_number-sized-requires
 put_number-sized-requires c = next_fits (wrote-order (goal.at.put_number-sized-requires c).After-put_number-ordered) (shows_number " keys " c.args.keys) (room-keys (goal.at.put_number-sized-requires c).Start)
 
--- TODO no goal today for the old `slice-aggregate-put-number-3`
-
 pub put_number-blocked-requires : goal.put_number-blocked-requires
 put_number-blocked-requires c = next_fits (wrote-keys (goal.at.put_number-blocked-requires c).After-put_number-sized) (shows_number " blocks " c.args.blocks) (room-blocks (goal.at.put_number-blocked-requires c).Start)
-
--- TODO no goal today for the old `slice-aggregate-put-number-4`
 
 pub put_number-filled-requires : goal.put_number-filled-requires
 put_number-filled-requires c = next_fits (wrote-blocks (goal.at.put_number-filled-requires c).After-put_number-blocked) (shows_number " fill " c.args.fill) (room-fill (goal.at.put_number-filled-requires c).Start)
 
--- TODO no goal today for the old `slice-aggregate-put-key`
-
 pub put_key-rooted-requires : goal.put_key-rooted-requires
 put_key-rooted-requires c = next_fits (wrote-fill (goal.at.put_key-rooted-requires c).After-put_number-filled) (shows_key " root " c.args.root) (room-root (goal.at.put_key-rooted-requires c).Start)
-
--- TODO no goal today for the old `slice-aggregate-put-bytes`
 
 pub put_bytes-requires : goal.put_bytes-requires
 unfolding header_line

@@ -39,22 +39,14 @@ wrote-rank c = written_then (wrote-key (goal.at.After-put_number-ranked c).After
 wrote_count : (c : After-put_number-counted) → Written c.args.output.now c.args.at (to-count (goal.at.After-put_number-counted c).Start) c.put_number-counted.new.output c.put_number-counted.result
 wrote_count c = written_then (wrote-rank (goal.at.After-put_number-counted c).After-put_number-ranked) c.put_number-counted.ensures (room-count (goal.at.After-put_number-counted c).Start)
 
--- TODO no goal today for the old `slice-aggregate-put-key`
-
 pub put_key-named-requires : goal.put_key-named-requires
 put_key-named-requires c = room-key (goal.at.put_key-named-requires c).Start
-
--- TODO no goal today for the old `slice-aggregate-put-number`
 
 pub put_number-ranked-requires : goal.put_number-ranked-requires
 put_number-ranked-requires c = next_fits (wrote-key (goal.at.put_number-ranked-requires c).After-put_key-named) (shows_number " rank " c.args.rank) (room-rank (goal.at.put_number-ranked-requires c).Start)
 
--- TODO no goal today for the old `slice-aggregate-put-number-2`
-
 pub put_number-counted-requires : goal.put_number-counted-requires
 put_number-counted-requires c = next_fits (wrote-rank (goal.at.put_number-counted-requires c).After-put_number-ranked) (shows_number " count " c.args.count) (room-count (goal.at.put_number-counted-requires c).Start)
-
--- TODO no goal today for the old `slice-aggregate-put-bytes`
 
 pub put_bytes-requires : goal.put_bytes-requires
 unfolding key_line

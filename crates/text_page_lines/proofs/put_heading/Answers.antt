@@ -28,8 +28,6 @@ named c = ongoing_next c.requires (ascii "PAGE ") (number (goal.at.After-put_byt
 numbered : (c : After-put_digits-numbered) → Left (goal.at.After-put_digits-numbered c).Start line_feed c.put_digits-numbered.new.output c.put_digits-numbered.result
 numbered c = ongoing_next c.requires (number (goal.at.After-put_digits-numbered c).Start) line_feed (named (goal.at.After-put_digits-numbered c).After-put_bytes-named) c.put_digits-numbered.ensures
 
--- TODO no goal today for the old `slice-aggregate-put-bytes`
-
 pub put_bytes-named-requires : goal.put_bytes-named-requires
 put_bytes-named-requires c = ongoing_fits c.requires (ascii "PAGE ") (number (goal.at.put_bytes-named-requires c).Start ++ line_feed) (at_first (goal.at.put_bytes-named-requires c).Start)
 
@@ -37,8 +35,6 @@ pub put_digits-numbered-requires : goal.put_digits-numbered-requires
 put_digits-numbered-requires c =
     let room = ongoing_fits c.requires (number (goal.at.put_digits-numbered-requires c).Start) line_feed (named (goal.at.put_digits-numbered-requires c).After-put_bytes-named) in
     (omega arith, omega arith, omega (arith, room, digits_length 10 number_digits c.args.number))
-
--- TODO no goal today for the old `slice-aggregate-put-bytes-2`
 
 pub put_bytes-requires : goal.put_bytes-requires
 put_bytes-requires c = last_fits c.requires line_feed (numbered (goal.at.put_bytes-requires c).After-put_digits-numbered)

@@ -74,8 +74,6 @@ put_aligned-counted-requires c =
     let room = ongoing_fits c.requires.3 (right_aligned (suc column_width) (decimal c.args.count)) (from-leader (goal.at.put_aligned-counted-requires c).Start) (ranked (goal.at.put_aligned-counted-requires c).After-put_aligned-ranked) in
     (omega arith, omega (arith, room, aligned_length (suc column_width) (decimal c.args.count) (omega arith)))
 
--- TODO no goal today for the old `slice-aggregate-put-key`
-
 pub put_key-led-requires : goal.put_key-led-requires
 put_key-led-requires c =
     ongoing_fits c.requires.3 (spaced (hexadecimal c.args.leader)) (from-size (goal.at.put_key-led-requires c).Start) (counted (goal.at.put_key-led-requires c).After-put_aligned-counted)
@@ -83,8 +81,6 @@ put_key-led-requires c =
 pub put_size-sized-requires : goal.put_size-sized-requires
 put_size-sized-requires c =
     (c.requires.2, ongoing_fits c.requires.3 (column (size_text (size_of (measure_at c.args.tag)))) line_feed (led (goal.at.put_size-sized-requires c).After-put_key-led))
-
--- TODO no goal today for the old `slice-aggregate-put-bytes`
 
 pub put_bytes-requires : goal.put_bytes-requires
 put_bytes-requires c = last_fits c.requires.3 line_feed (sized (goal.at.put_bytes-requires c).After-put_size-sized)

@@ -41,8 +41,6 @@ put_aligned-point-requires c =
     let room = ongoing_fits c.requires.1 (whole (goal.at.put_aligned-point-requires c).Start) (ascii "." ++ tenth (goal.at.put_aligned-point-requires c).Start) (at_first (goal.at.put_aligned-point-requires c).Start) in
     (omega arith, omega (arith, room, aligned_length before_point (decimal (c.args.half_points / 2)) (omega arith)))
 
--- TODO no goal today for the old `slice-aggregate-put-bytes`
-
 pub put_bytes-tenth-requires : goal.put_bytes-tenth-requires
 put_bytes-tenth-requires c = ongoing_fits c.requires.1 (ascii ".") (tenth (goal.at.put_bytes-tenth-requires c).Start) (counted (goal.at.put_bytes-tenth-requires c).After-put_aligned-point)
 

@@ -34,8 +34,6 @@ points c =
     let tag = c.args.tag in
     ap column (size_some tag (long (goal.at.After-half_points_in c).Else-length_in-eq0) ∙ ap points_text (sym c.half_points_in.ensures))
 
--- TODO no goal today for the old `slice-aggregate-put-bytes`
-
 pub put_bytes-requires : goal.put_bytes-requires
 put_bytes-requires c = omega (arith, ap length (hyphen (goal.at.put_bytes-requires c).Then-length_in-eq0), c.requires.1)
 
