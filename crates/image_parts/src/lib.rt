@@ -117,8 +117,8 @@ fn put_part(
     requires ranked { Ranked (length keys.now) root rank.now leader.now }
     requires low_lt_high { (low < high) × (high ≤ length sorted.now) × All (λ i. i < length keys.now) sorted.now }
     requires sorted_in_bounds { at + length (block_at keys.now tags.now root (record { left = left.now; right = right.now; leader = leader.now; rank = rank.now; count = count.now }) (slice low high sorted.now)) ≤ length output.old }
-    ensures value { result ≡ at + length (block_at keys.now tags.now root (record { left = left.entry.now; right = right.now; leader = leader.now; rank = rank.now; count = count.now }) (slice low high sorted.now)) }
-    ensures output_after { output.new ≡ overwrite output.old at (block_at keys.now tags.now root (record { left = left.entry.now; right = right.now; leader = leader.now; rank = rank.now; count = count.now }) (slice low high sorted.now)) }
+    ensures value { result ≡ at + length (block_at keys.now tags.now root (record { left = left.now; right = right.now; leader = leader.now; rank = rank.now; count = count.now }) (slice low high sorted.now)) }
+    ensures output_after { output.new ≡ overwrite output.old at (block_at keys.now tags.now root (record { left = left.now; right = right.now; leader = leader.now; rank = rank.now; count = count.now }) (slice low high sorted.now)) }
 {
     let i = sorted[low] as usize;
     let level = image_blocks::names::level_at(root, rank, i);
@@ -158,7 +158,7 @@ fn put_blocks(
     requires ranked { Ranked (length keys.now) root rank.now leader.now }
     requires weights_len { (length weights.now ≡ length keys.now) × All (λ i. i < length keys.now) sorted.now }
     requires sorted_in_bounds { from + length (blocks_at keys.now tags.now root (record { left = left.now; right = right.now; leader = leader.now; rank = rank.now; count = count.now }) weights.now sorted.now) ≤ length output.old }
-    ensures { output.new ≡ overwrite output.old from (blocks_at keys.now tags.now root (record { left = left.entry.now; right = right.now; leader = leader.now; rank = rank.now; count = count.now }) weights.now sorted.now) }
+    ensures { output.new ≡ overwrite output.old from (blocks_at keys.now tags.now root (record { left = left.now; right = right.now; leader = leader.now; rank = rank.now; count = count.now }) weights.now sorted.now) }
 {
     let mut low = 0;
     let mut at = from;
@@ -191,8 +191,8 @@ pub fn emit(
     requires listed { Listed keys.now tags.now left.now right.now rank.now count.now }
     requires ranked { Ranked (length keys.now) root rank.now leader.now }
     requires weights_len { (length weights.now ≡ length keys.now) × (length sorted.now ≡ length keys.now) × All (λ i. i < length keys.now) sorted.now }
-    ensures value { result ≡ length (image_at order salt keys.now tags.now root (record { left = left.entry.now; right = right.now; leader = leader.now; rank = rank.now; count = count.now }) weights.now sorted.now) }
-    ensures output_after { output.new ≡ written_to output.old (image_at order salt keys.now tags.now root (record { left = left.entry.now; right = right.now; leader = leader.now; rank = rank.now; count = count.now }) weights.now sorted.now) }
+    ensures value { result ≡ length (image_at order salt keys.now tags.now root (record { left = left.now; right = right.now; leader = leader.now; rank = rank.now; count = count.now }) weights.now sorted.now) }
+    ensures output_after { output.new ≡ written_to output.old (image_at order salt keys.now tags.now root (record { left = left.now; right = right.now; leader = leader.now; rank = rank.now; count = count.now }) weights.now sorted.now) }
 {
     let head = image_records::head_bytes(salt);
     let blocks = image_blocks::runs::count_runs(weights, sorted);

@@ -48,7 +48,7 @@ fn slot_at(
 ) -> Slot
     requires linked { Linked keys.now (record { left = left.now; right = right.now; leader = leader.now; rank = rank.now; count = count.now }) }
     requires position_in_bounds { (position ≤ length keys.now) × (length keys.now ≤ length tags.now) }
-    ensures { words_in result ≡ slot_at keys.now tags.now (record { left = left.entry.now; right = right.now; leader = leader.now; rank = rank.now; count = count.now }) position }
+    ensures { words_in result ≡ slot_at keys.now tags.now (record { left = left.now; right = right.now; leader = leader.now; rank = rank.now; count = count.now }) position }
 {
     if position == 0 {
         return Slot {
@@ -112,7 +112,7 @@ pub fn emit(
     requires linked { Linked keys.now (record { left = left.now; right = right.now; leader = leader.now; rank = rank.now; count = count.now }) }
     requires root_in_bounds { (root ≤ length keys.now) × All (λ i. i ≤ length keys.now) slots.now × (length keys.now ≤ length tags.now) }
     requires table_len { length table.old ≡ table_words (length slots.now) }
-    ensures { table.new ≡ words_of order salt keys.now tags.now root (record { left = left.entry.now; right = right.now; leader = leader.now; rank = rank.now; count = count.now }) slots.now }
+    ensures { table.new ≡ words_of order salt keys.now tags.now root (record { left = left.now; right = right.now; leader = leader.now; rank = rank.now; count = count.now }) slots.now }
 {
     table[ORDER_WORD] = order;
     table[SIZE_WORD] = keys.len() as u64;
@@ -180,7 +180,7 @@ pub fn matches(
     requires linked { Linked keys.now (record { left = left.now; right = right.now; leader = leader.now; rank = rank.now; count = count.now }) }
     requires root_in_bounds { (root ≤ length keys.now) × All (λ i. i ≤ length keys.now) slots.now × (length keys.now ≤ length tags.now) }
     requires table_len { length table.now ≡ table_words (length slots.now) }
-    ensures { result ≡ same table.now (words_of order salt keys.now tags.now root (record { left = left.entry.now; right = right.now; leader = leader.now; rank = rank.now; count = count.now }) slots.now) }
+    ensures { result ≡ same table.now (words_of order salt keys.now tags.now root (record { left = left.now; right = right.now; leader = leader.now; rank = rank.now; count = count.now }) slots.now) }
 {
     if table[ORDER_WORD] != order {
         return false;
