@@ -16,7 +16,7 @@ use table_descend::Standing;
 
 // `btreap_ranked`.
 #[repr(C)]
-#[derive(Drop)]
+#[derive(Clone, Copy)]
 pub struct RankedReply {
     pub refusal: u64,
     pub rank: u64,
@@ -24,7 +24,7 @@ pub struct RankedReply {
 
 // `btreap_found`; `held` is one or zero. The correction, last, has a sign.
 #[repr(C)]
-#[derive(Drop)]
+#[derive(Clone, Copy)]
 pub struct FoundReply {
     pub refusal: u64,
     pub held: u64,
@@ -38,7 +38,7 @@ pub struct FoundReply {
 
 // `btreap_sized`.
 #[repr(C)]
-#[derive(Drop)]
+#[derive(Clone, Copy)]
 pub struct SizedReply {
     pub refusal: u64,
     pub size: u64,
@@ -46,7 +46,7 @@ pub struct SizedReply {
 
 // `btreap_stepped`; `found` is one or zero.
 #[repr(C)]
-#[derive(Drop)]
+#[derive(Clone, Copy)]
 pub struct SteppedReply {
     pub refusal: u64,
     pub found: u64,
@@ -58,7 +58,7 @@ pub struct SteppedReply {
 
 // `btreap_pointed`; `measured` is one or zero. The rest, last, has a sign.
 #[repr(C)]
-#[derive(Drop)]
+#[derive(Clone, Copy)]
 pub struct PointedReply {
     pub refusal: u64,
     pub measured: u64,

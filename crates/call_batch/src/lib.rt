@@ -17,7 +17,7 @@ use table_descend::Looked;
 // A line of a batch: its key, and places for what a lookup of the key says: one where it is held, else zero; and its rank, zero where it is
 // absent.
 #[repr(C)]
-#[derive(Drop)]
+#[derive(Clone, Copy)]
 pub struct Question {
     pub key: u64,
     pub held: u64,

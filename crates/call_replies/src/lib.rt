@@ -56,42 +56,42 @@ pub fn number(reason: Refusal) -> u64
 }
 
 // The answer of a set-up.
-#[derive(Drop)]
+#[derive(Clone, Copy)]
 pub enum SetUp {
     Done,
     Refused(Refusal),
 }
 
 // The answer of a load.
-#[derive(Drop)]
+#[derive(Clone, Copy)]
 pub enum Loaded {
     Done,
     Refused(Refusal),
 }
 
 // The answer of a build.
-#[derive(Drop)]
+#[derive(Clone, Copy)]
 pub enum Built {
     Done,
     Refused(Refusal),
 }
 
 // The answer of an insert: the rank that the key now has.
-#[derive(Drop)]
+#[derive(Clone, Copy)]
 pub enum Inserted {
     Rank(u64),
     Refused(Refusal),
 }
 
 // The answer of a delete: the rank that the key had.
-#[derive(Drop)]
+#[derive(Clone, Copy)]
 pub enum Deleted {
     Rank(u64),
     Refused(Refusal),
 }
 
 // The answer of a lookup: where a held key stands, with its measure, and how many blocks hold the keys that were compared.
-#[derive(Drop)]
+#[derive(Clone, Copy)]
 pub enum LookedUp {
     Held(Standing, usize),
     Absent(usize),
@@ -106,35 +106,35 @@ pub enum Batched {
 }
 
 // The answer of a writing: how many bytes the image has.
-#[derive(Drop)]
+#[derive(Clone, Copy)]
 pub enum Written {
     Bytes(usize),
     Refused(Refusal),
 }
 
 // The answer of a reading.
-#[derive(Drop)]
+#[derive(Clone, Copy)]
 pub enum ReadBack {
     Done,
     Refused(Refusal),
 }
 
 // The answer of a listing, and of a printing of pages: how many bytes the text has.
-#[derive(Drop)]
+#[derive(Clone, Copy)]
 pub enum Listed {
     Bytes(usize),
     Refused(Refusal),
 }
 
 // The answer of a range: how many keys were written.
-#[derive(Drop)]
+#[derive(Clone, Copy)]
 pub enum Ranged {
     Wrote(usize),
     Refused(Refusal),
 }
 
 // The answer of a step: the next key, or the end.
-#[derive(Drop)]
+#[derive(Clone, Copy)]
 pub enum Stepped {
     Key(u64),
     End,
@@ -142,7 +142,7 @@ pub enum Stepped {
 }
 
 // The answer for a size in Paris points: the half points of a measured last and the signed rest.
-#[derive(Drop)]
+#[derive(Clone, Copy)]
 pub enum Pointed {
     Size(u64, i64),
     NotMeasured,

@@ -12,7 +12,7 @@ use call_replies::{Refusal, Stepped};
 pub const GREATEST_KEY: u64 = 18446744073709551615;
 
 // Where a step goes on: the least key that it may yield and the greatest, and whether there is nothing more to yield.
-#[derive(Drop)]
+#[derive(Clone, Copy)]
 pub struct Place {
     pub next: u64,
     pub high: u64,
@@ -61,7 +61,7 @@ pub fn spent_place() -> Place
 }
 
 // The answer of a step and the place after it.
-#[derive(Drop)]
+#[derive(Clone, Copy)]
 pub struct Moved {
     pub answer: Stepped,
     pub place: Place,

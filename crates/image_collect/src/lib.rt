@@ -18,14 +18,14 @@ use image::{
 use measure::UNMEASURED;
 
 // What checking a block's node records finds: where they end.
-#[derive(Drop)]
+#[derive(Clone, Copy)]
 enum Checked {
     End(usize),
     Broken,
 }
 
 // What collecting the keys of an image finds: how many there are.
-#[derive(Drop)]
+#[derive(Clone, Copy)]
 pub enum Collected {
     Keys(usize),
     Broken,

@@ -14,7 +14,7 @@ ghost use Rattle.image_programs.specs.Printed.{program_slots, program_bytes, pro
 use call_replies::{Listed, ReadBack};
 
 // What is printed.
-#[derive(Drop)]
+#[derive(Clone, Copy)]
 pub enum Kind {
     Listing,
     Pages,

@@ -19,7 +19,7 @@ use priority::CONSTANT_COUNT;
 use table::{GREATEST_ORDER, LEAST_ORDER};
 
 // What recognizing an image finds: how many keys it shows.
-#[derive(Drop)]
+#[derive(Clone, Copy)]
 pub enum Recognized {
     Image(usize),
     Other,

@@ -187,7 +187,7 @@ pub fn look_up(table: &[u64], key: u64) {
 }
 
 // The answer of a batch of lookups, and the lines as it left them.
-#[derive(Drop)]
+#[derive(Clone, Copy)]
 struct Asked {
     answer: Batched,
     lines: [Question; BATCH],
@@ -215,7 +215,7 @@ fn asks(key: u64) -> Question {
     }
 }
 
-fn tell_line(line: &Question) {
+fn tell_line(line: Question) {
     say(b" line");
     tell(line.key);
     tell(line.held);
@@ -240,9 +240,9 @@ pub fn look_up_batch(table: &[u64], first: u64, second: u64, third: u64) {
         }
         Batched::Refused(reason) => refused(reason),
     }
-    tell_line(&left[0]);
-    tell_line(&left[1]);
-    tell_line(&left[2]);
+    tell_line(left[0]);
+    tell_line(left[1]);
+    tell_line(left[2]);
     say(b"\n");
 }
 

@@ -18,7 +18,7 @@ use priority::CONSTANT_COUNT;
 use table::{CORRECTION_FIELD, COUNT_FIELD, LEADER_FIELD, LENGTH_FIELD, RANK_FIELD, ROOT_WORD};
 
 // What a table says of a key that it holds.
-#[derive(Drop)]
+#[derive(Clone, Copy)]
 pub struct Standing {
     pub rank: u64,
     pub count: u64,
@@ -29,7 +29,7 @@ pub struct Standing {
 }
 
 // What the way down from the root finds: the key, with its standing, or not; and how many blocks were met, of those that no earlier lookup met.
-#[derive(Drop)]
+#[derive(Clone, Copy)]
 pub enum Looked {
     Held(Standing, usize),
     Absent(usize),

@@ -17,7 +17,7 @@ use priority::CONSTANT_COUNT;
 use table::{ORDER_WORD, SALT_WORD};
 
 // What examining a table finds: how many keys it holds, where it is sound.
-#[derive(Drop)]
+#[derive(Clone, Copy)]
 pub enum Verdict {
     Sound(usize),
     Unsound,

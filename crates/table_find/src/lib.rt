@@ -8,7 +8,7 @@ ghost use Rattle.table_find.specs.Find.{scanned, searched};
 use table::{HEADER_WORDS, KEY_FIELD, SLOT_WORDS};
 
 // Where the search stops.
-#[derive(Drop)]
+#[derive(Clone, Copy)]
 pub enum Found {
     // At this slot, which is empty or holds the key.
     At(usize),
