@@ -23,7 +23,7 @@ pub extern "C" fn btreap_set_up(table: &mut [u64], order: u64, salt: u64) -> u64
     ensures table_after { table.new ≡ set_up_after table.old order salt }
 {
     let answer = index::set_up(table, order, salt);
-    btreap_structs::set_up(answer)
+    btreap_structs::done(answer)
 }
 
 // Make of any words of a right length the table of an order, a salt, which is any number, and a strictly rising list of keys with their
@@ -41,7 +41,7 @@ pub extern "C" fn btreap_build(
     ensures table_after { table.new ≡ build_after table.old order salt keys.now lengths.now corrections.now }
 {
     let answer = index::build(table, order, salt, keys, lengths, corrections);
-    btreap_structs::built(answer)
+    btreap_structs::done(answer)
 }
 
 // Make of any words of a right length the table of an order, of salt zero and of the keys that `count` operations after a seed leave. Refusals: 1, 2.
@@ -51,7 +51,7 @@ pub extern "C" fn btreap_load(table: &mut [u64], order: u64, seed: u64, count: u
     ensures table_after { table.new ≡ load_after table.old order seed count }
 {
     let answer = index::load(table, order, seed, count);
-    btreap_structs::loaded(answer)
+    btreap_structs::done(answer)
 }
 
 // Insert a key with its length and its correction, both zero when it is not measured; the rank that it then has.
@@ -67,7 +67,7 @@ pub extern "C" fn btreap_insert(
     ensures table_after { table.new ≡ insert_after table.old key (record { length = length; correction = correction }) }
 {
     let answer = index::insert(table, key, length, correction);
-    btreap_structs::inserted(answer)
+    RankedReply::from(answer)
 }
 
 // Delete a key; the rank that it had. Refusals: 1, 3, 7, 9.
@@ -77,7 +77,7 @@ pub extern "C" fn btreap_delete(table: &mut [u64], key: u64) -> RankedReply
     ensures table_after { table.new ≡ delete_after table.old key }
 {
     let answer = index::delete(table, key);
-    btreap_structs::deleted(answer)
+    RankedReply::from(answer)
 }
 
 // Look a key up: whether it is held, where it stands, with its measure, and how many blocks hold the keys compared. Refusals: 1, 3, 7.
@@ -87,7 +87,7 @@ pub extern "C" fn btreap_lookup(table: &[u64], key: u64) -> FoundReply
     ensures correction_value { result.correction ≡ lookup_correction table.now key }
 {
     let answer = index::look_up(table, key);
-    btreap_structs::looked_up(answer)
+    FoundReply::from(answer)
 }
 
 // Look the strictly rising keys of a batch up, and fill in at each whether it is held, and its rank; how many different blocks hold the
@@ -98,7 +98,7 @@ pub extern "C" fn btreap_lookup_batch(table: &[u64], questions: &mut [Question])
     ensures questions_after { questions.new ≡ batch_after table.now questions.old }
 {
     let answer = index::look_up_batch(table, questions);
-    btreap_structs::batched(answer)
+    SizedReply::from(answer)
 }
 
 // Write at the start of `output` the keys that the table holds from `low` to `high`, both included, rising. Refusals: 1, 4, 7, 11.
@@ -108,7 +108,7 @@ pub extern "C" fn btreap_range(table: &[u64], low: u64, high: u64, output: &mut 
     ensures output_after { output.new ≡ range_output table.now low high output.old }
 {
     let answer = index::range(table, low, high, output);
-    btreap_structs::ranged(answer)
+    SizedReply::from(answer)
 }
 
 // The least key that the table holds from `next` to `high`, and the place after it; the place is done where `done` is not zero.
@@ -121,10 +121,9 @@ pub extern "C" fn btreap_step(table: &[u64], next: u64, high: u64, done: u64) ->
     ensures done_value { result.done ≡ mark_after done (step_place table.now (place_given next high done)).done }
 {
     let moved = index::step_at(table, next, high, done != 0);
-    let answer = moved.answer;
     let place = moved.place;
     let mark = btreap_structs::mark_after(done, place.done);
-    btreap_structs::stepped(answer, place.next, place.high, mark)
+    btreap_structs::stepped(moved.answer, place.next, place.high, mark)
 }
 
 // Write the table's image at the start of `output`; how many bytes it has. Refusals: 1, 7, 11.
@@ -134,7 +133,7 @@ pub extern "C" fn btreap_write(table: &[u64], output: &mut [u8]) -> SizedReply
     ensures output_after { output.new ≡ write_output table.now output.old }
 {
     let answer = index::write(table, output);
-    btreap_structs::written(answer)
+    SizedReply::from(answer)
 }
 
 // Make of any words of a right length the table whose image the bytes are. Refusals: 1, 6, 10.
@@ -144,7 +143,7 @@ pub extern "C" fn btreap_read(table: &mut [u64], image: &[u8]) -> u64
     ensures table_after { table.new ≡ read_after table.old image.now }
 {
     let answer = index::read(table, image);
-    btreap_structs::read_back(answer)
+    btreap_structs::done(answer)
 }
 
 // Write the text of an image at the start of `output`; how many bytes it has. Refusals: 6, 11.
@@ -154,7 +153,7 @@ pub extern "C" fn btreap_list(image: &[u8], output: &mut [u8]) -> SizedReply
     ensures output_after { output.new ≡ list_output image.now output.old }
 {
     let answer = index::list(image, output);
-    btreap_structs::listed(answer)
+    SizedReply::from(answer)
 }
 
 // Write the table's printed pages at the start of `output`; how many bytes they have. Refusals: 1, 7, 11.
@@ -164,7 +163,7 @@ pub extern "C" fn btreap_pages(table: &[u64], output: &mut [u8]) -> SizedReply
     ensures output_after { output.new ≡ pages_output table.now output.old }
 {
     let answer = index::pages(table, output);
-    btreap_structs::listed(answer)
+    SizedReply::from(answer)
 }
 
 // The size of a length and a correction in half points, and the signed rest, from -500 to 499 thousandths of one; zeros for length 0 and
@@ -176,5 +175,5 @@ pub extern "C" fn btreap_points(length: u64, correction: i32) -> PointedReply
     ensures rest_value_2 { lies_z least_rest greatest_rest result.rest ≡ true }
 {
     let answer = index::points(length, correction);
-    btreap_structs::pointed(answer)
+    PointedReply::from(answer)
 }

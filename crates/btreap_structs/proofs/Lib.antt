@@ -1,3 +1,2 @@
 -- Laws of the replies as structs.
-pub mod Agreeing
 pub mod Marks

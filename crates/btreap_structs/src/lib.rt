@@ -2,17 +2,13 @@
 // numbers, zero where there is one.
 #![tactic(auto)]
 
-ghost use Rattle.std.specs.Prelude.{◌≡◌, pos};
-ghost use Rattle.call_replies.specs.Replies.{number_of, set_up_of, loaded_of, built_of, inserted_of, deleted_of, looked_up_of, correction_of, batched_of, ranged_of, stepped_of, written_of, read_back_of, listed_of, pointed_of, rest_of};
-ghost use Rattle.call_replies.specs.declared.LookedUp.TheVariants.{Held};
-ghost use Rattle.call_replies.specs.declared.Pointed.TheVariants.{Size};
+ghost use Rattle.std.specs.Prelude.{◌≡◌, Some, Ok, pos};
+ghost use Rattle.call_replies.specs.Replies.{number_of, done_of, ranked_of, looked_up_of, correction_of, sized_of, stepped_of, pointed_of, rest_of};
 ghost use Rattle.btreap_structs.specs.Structs.{ranked, found, none_found, sized, stepped, mark_after, pointed, no_points};
 
-use call_replies::{
-    Batched, Built, Deleted, Inserted, Listed, Loaded, LookedUp, Pointed, Ranged, ReadBack,
-    Refusal, SetUp, Stepped, Written,
-};
-use table_descend::Standing;
+use call_replies::Refusal;
+use paris_points::Size;
+use table_descend::{Looked, Standing};
 
 // `btreap_ranked`.
 #[repr(C)]
@@ -66,44 +62,59 @@ pub struct PointedReply {
     pub rest: i64,
 }
 
-// The reply of a call that was accepted with a rank, and of one that was refused.
-fn rank_given(rank: u64) -> RankedReply
-    ensures { (result.refusal ≡ 0) × (result.rank ≡ rank) }
+// The number of a refusal, zero where there is none.
+pub fn done(answer: Result<(), Refusal>) -> u64
+    ensures { result ≡ (done_of answer).refusal }
 {
-    RankedReply { refusal: 0, rank }
-}
-
-fn rank_refused(reason: Refusal) -> RankedReply
-    ensures { (result.refusal ≡ number_of reason) × (result.rank ≡ 0) }
-{
-    RankedReply {
-        refusal: call_replies::number(reason),
-        rank: 0,
+    match answer {
+        Ok(()) => 0,
+        Err(reason) => reason.number(),
     }
 }
 
-// The reply of a call that was accepted with a size, and of one that was refused.
-fn size_given(size: usize) -> SizedReply
-    ensures { (result.refusal ≡ 0) × (result.size ≡ size) }
-{
-    SizedReply {
-        refusal: 0,
-        size: size as u64,
+// The reply with a rank, and that of a refusal.
+impl From<Result<u64, Refusal>> for RankedReply {
+    ghost from_gives = { λ answer reply. ranked reply ≡ ranked_of answer };
+
+    fn from(answer: Result<u64, Refusal>) -> RankedReply {
+        match answer {
+            Ok(rank) => RankedReply { refusal: 0, rank },
+            Err(reason) => RankedReply {
+                refusal: reason.number(),
+                rank: 0,
+            },
+        }
     }
 }
 
-fn size_refused(reason: Refusal) -> SizedReply
+// The reply of a call that was refused, and gives a size where it is not.
+fn no_size(reason: Refusal) -> SizedReply
     ensures { (result.refusal ≡ number_of reason) × (result.size ≡ 0) }
 {
     SizedReply {
-        refusal: call_replies::number(reason),
+        refusal: reason.number(),
         size: 0,
+    }
+}
+
+// The reply with a size, and that of a refusal.
+impl From<Result<usize, Refusal>> for SizedReply {
+    ghost from_gives = { λ answer reply. sized reply ≡ sized_of answer };
+
+    fn from(answer: Result<usize, Refusal>) -> SizedReply {
+        match answer {
+            Ok(size) => SizedReply {
+                refusal: 0,
+                size: size as u64,
+            },
+            Err(reason) => no_size(reason),
+        }
     }
 }
 
 // The reply of a lookup that found the key, and of one that did not or was refused.
 fn found_given(standing: Standing, blocks: usize) -> FoundReply
-    ensures { (found result ≡ looked_up_of (Held standing blocks)) × (result.correction ≡ standing.correction) }
+    ensures { (found result ≡ looked_up_of (Ok (record { standing = Some standing; blocks = blocks }))) × (result.correction ≡ standing.correction) }
 {
     FoundReply {
         refusal: 0,
@@ -132,104 +143,17 @@ fn none_found(refusal: u64, blocks: usize) -> FoundReply
     }
 }
 
-pub fn set_up(answer: SetUp) -> u64
-    ensures { result ≡ (set_up_of answer).refusal }
-{
-    match answer {
-        SetUp::Done => 0,
-        SetUp::Refused(reason) => call_replies::number(reason),
-    }
-}
+impl From<Result<Looked, Refusal>> for FoundReply {
+    ghost from_gives = { λ answer reply. (found reply ≡ looked_up_of answer) × (reply.correction ≡ correction_of answer) };
 
-pub fn loaded(answer: Loaded) -> u64
-    ensures { result ≡ (loaded_of answer).refusal }
-{
-    match answer {
-        Loaded::Done => 0,
-        Loaded::Refused(reason) => call_replies::number(reason),
-    }
-}
-
-pub fn built(answer: Built) -> u64
-    ensures { result ≡ (built_of answer).refusal }
-{
-    match answer {
-        Built::Done => 0,
-        Built::Refused(reason) => call_replies::number(reason),
-    }
-}
-
-pub fn inserted(answer: Inserted) -> RankedReply
-    ensures { ranked result ≡ inserted_of answer }
-{
-    match answer {
-        Inserted::Rank(rank) => rank_given(rank),
-        Inserted::Refused(reason) => rank_refused(reason),
-    }
-}
-
-pub fn deleted(answer: Deleted) -> RankedReply
-    ensures { ranked result ≡ deleted_of answer }
-{
-    match answer {
-        Deleted::Rank(rank) => rank_given(rank),
-        Deleted::Refused(reason) => rank_refused(reason),
-    }
-}
-
-pub fn looked_up(answer: LookedUp) -> FoundReply
-    ensures result_value { found result ≡ looked_up_of answer }
-    ensures correction_value { result.correction ≡ correction_of answer }
-{
-    match answer {
-        LookedUp::Held(standing, blocks) => found_given(standing, blocks),
-        LookedUp::Absent(blocks) => none_found(0, blocks),
-        LookedUp::Refused(reason) => none_found(call_replies::number(reason), 0),
-    }
-}
-
-pub fn batched(answer: Batched) -> SizedReply
-    ensures { sized result ≡ batched_of answer }
-{
-    match answer {
-        Batched::Blocks(size) => size_given(size),
-        Batched::Refused(reason) => size_refused(reason),
-    }
-}
-
-pub fn ranged(answer: Ranged) -> SizedReply
-    ensures { sized result ≡ ranged_of answer }
-{
-    match answer {
-        Ranged::Wrote(size) => size_given(size),
-        Ranged::Refused(reason) => size_refused(reason),
-    }
-}
-
-pub fn written(answer: Written) -> SizedReply
-    ensures { sized result ≡ written_of answer }
-{
-    match answer {
-        Written::Bytes(size) => size_given(size),
-        Written::Refused(reason) => size_refused(reason),
-    }
-}
-
-pub fn read_back(answer: ReadBack) -> u64
-    ensures { result ≡ (read_back_of answer).refusal }
-{
-    match answer {
-        ReadBack::Done => 0,
-        ReadBack::Refused(reason) => call_replies::number(reason),
-    }
-}
-
-pub fn listed(answer: Listed) -> SizedReply
-    ensures { sized result ≡ listed_of answer }
-{
-    match answer {
-        Listed::Bytes(size) => size_given(size),
-        Listed::Refused(reason) => size_refused(reason),
+    fn from(answer: Result<Looked, Refusal>) -> FoundReply {
+        match answer {
+            Ok(looked) => match looked.standing {
+                Some(standing) => found_given(standing, looked.blocks),
+                None => none_found(0, looked.blocks),
+            },
+            Err(reason) => none_found(reason.number(), 0),
+        }
     }
 }
 
@@ -246,47 +170,47 @@ pub fn mark_after(before: u64, done: bool) -> u64
     1
 }
 
-pub fn stepped(answer: Stepped, next: u64, high: u64, done: u64) -> SteppedReply
-    ensures result_value { stepped result ≡ stepped_of answer }
+// The reply of a step, with the place after it.
+pub fn stepped(
+    answer: Result<Option<u64>, Refusal>,
+    next: u64,
+    high: u64,
+    done: u64,
+) -> SteppedReply
+    ensures reply_value { stepped result ≡ stepped_of answer }
     ensures next_value { (result.next ≡ next) × (result.high ≡ high) × (result.done ≡ done) }
 {
+    let end = SteppedReply {
+        refusal: 0,
+        found: 0,
+        key: 0,
+        next,
+        high,
+        done,
+    };
     match answer {
-        Stepped::Key(key) => SteppedReply {
-            refusal: 0,
+        Ok(Some(key)) => SteppedReply {
             found: 1,
             key,
-            next,
-            high,
-            done,
+            ..end
         },
-        Stepped::End => SteppedReply {
-            refusal: 0,
-            found: 0,
-            key: 0,
-            next,
-            high,
-            done,
-        },
-        Stepped::Refused(reason) => SteppedReply {
-            refusal: call_replies::number(reason),
-            found: 0,
-            key: 0,
-            next,
-            high,
-            done,
+        Ok(None) => end,
+        Err(reason) => SteppedReply {
+            refusal: reason.number(),
+            ..end
         },
     }
 }
 
 // The reply for a measure that has a size, and for one that has none: it is not measured, or it was refused.
-fn points_given(size: u64, rest: i64) -> PointedReply
-    ensures { (pointed result ≡ pointed_of (Size size rest)) × (result.rest ≡ rest) }
+fn size_given(size: Size) -> PointedReply
+    ensures { (pointed result ≡ pointed_of (Ok (Some size))) × (result.rest ≡ size.rest) }
 {
     PointedReply {
         refusal: 0,
         measured: 1,
-        half_points: size,
-        rest,
+        half_points: size.half_points,
+        rest: size.rest,
     }
 }
 
@@ -301,13 +225,14 @@ fn no_points(refusal: u64) -> PointedReply
     }
 }
 
-pub fn pointed(answer: Pointed) -> PointedReply
-    ensures result_value { pointed result ≡ pointed_of answer }
-    ensures rest_value { result.rest ≡ rest_of answer }
-{
-    match answer {
-        Pointed::Size(size, rest) => points_given(size, rest),
-        Pointed::NotMeasured => no_points(0),
-        Pointed::Refused(reason) => no_points(call_replies::number(reason)),
+impl From<Result<Option<Size>, Refusal>> for PointedReply {
+    ghost from_gives = { λ answer reply. (pointed reply ≡ pointed_of answer) × (reply.rest ≡ rest_of answer) };
+
+    fn from(answer: Result<Option<Size>, Refusal>) -> PointedReply {
+        match answer {
+            Ok(Some(size)) => size_given(size),
+            Ok(None) => no_points(0),
+            Err(reason) => no_points(reason.number()),
+        }
     }
 }

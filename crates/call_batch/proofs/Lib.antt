@@ -4,5 +4,4 @@ pub mod LineByLine
 pub mod Counting
 pub mod LineFound
 pub mod Batching
-pub mod AnswerWalks
 pub mod SmallBatches

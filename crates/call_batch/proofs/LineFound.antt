@@ -1,11 +1,12 @@
 -- What the way down to a line's key says of the line: it is the line after those before it, and its new blocks are few. Assumes a sound table
 -- and a key that is not zero.
-use mathlib.Core.Bool.{Bool, true, false, cond}
+use mathlib.Core.Bool.{true, cond}
 use mathlib.Core.List.{List}
-use mathlib.Core.Path.{◌≡◌, refl, ap, ◌∙◌}
+use mathlib.Core.Path.{◌≡◌, refl, sym, ap, ◌∙◌}
 use Prim.Native.Nat.{ℕ, ◌+◌, ◌≤◌}
 use native.Mathlib.Omega.{arith}
 use lib.ListN.{length}
+use Rattle.std.specs.Prelude.{Option, Some, None}
 use Rattle.lists.specs.Lists.{member}
 use Rattle.lists.proofs.Tests.{by_test}
 use Rattle.lists.proofs.Keep.{length-keep}
@@ -16,8 +17,8 @@ use Rattle.table_limits.specs.Lengths.{slots_for}
 use Rattle.table_judge.specs.Judge.{is_sound}
 use Rattle.table_descend.specs.Lookup.{standing_of, earlier, newly_met, looked_up_after}
 use Rattle.table_descend.specs.declared.Looked.{Looked}
+use Rattle.table_descend.specs.declared.Standing.{Standing}
 use Rattle.table.specs.Contents.{keys_in, priority_in}
-use Rattle.table_descend.specs.declared.Looked.TheVariants.{Held, Absent}
 use Rattle.call_meaning.specs.Reasons.{shown}
 use Rattle.call_meaning.specs.Calls.{rank_in, standing_in, lookup_refusal, lookup_reply}
 use Rattle.call_meaning.proofs.Lookups.{lookup_accepted}
@@ -26,15 +27,10 @@ use Rattle.call_batch.specs.Answering.{line_after}
 use Rattle.call_batch.specs.declared.Progress.{Progress}
 use Rattle.call_batch.proofs.Counting.{blocks_most}
 
--- The line that an answer makes.
-abbrev pub line_from : Progress → ℕ → Looked → Progress
-line_from so key (Held s n) = record { key = key; held = 1; rank = s.rank; before = so.key; blocks = so.blocks + n }
-line_from so key (Absent n) = record { key = key; held = 0; rank = 0; before = so.key; blocks = so.blocks + n }
-
--- Its new blocks.
-abbrev pub new_in : Looked → ℕ
-new_in (Held s n) = n
-new_in (Absent n) = n
+-- The line that is made of a standing and a number of new blocks.
+abbrev pub line_from : Progress → ℕ → Option Standing → ℕ → Progress
+line_from so key (Some s) n = record { key = key; held = 1; rank = s.rank; before = so.key; blocks = so.blocks + n }
+line_from so key None n = record { key = key; held = 0; rank = 0; before = so.key; blocks = so.blocks + n }
 
 module _ (words : List ℕ) (sound : is_sound words ≡ true) (key : ℕ) (positive : 1 ≤ key) where
   accepted : lookup_refusal words key ≡ 0
@@ -53,21 +49,17 @@ module _ (words : List ℕ) (sound : is_sound words ≡ true) (key : ℕ) (posit
     unfolding shown
     in_shown = told ∙ ap (λ (n : ℕ). looked_up_after (contents_of n words) (earlier so.key so.before) key) here
 
-    pub line_found : line_from so key found ≡ line_after words so key
+    pub line_found : (standing : Option Standing) → found.standing ≡ standing → line_from so key standing found.blocks ≡ line_after words so key
     unfolding line_after looked_up_after standing_of rank_in
-    line_found =
-        ap (line_from so key) in_shown
+    line_found standing e =
+        ap (λ (s : Option Standing). line_from so key s found.blocks) (sym e)
+        ∙ ap (λ (l : Looked). line_from so key l.standing l.blocks) in_shown
         ∙ by_test (member key (keys_in (shown words))) (λ e. rw (held_is, rank_is, e) refl) (λ e. rw (held_is, rank_is, e) refl)
 
-    pub few_found : new_in found ≤ most_slots
+    pub few_found : found.blocks ≤ most_slots
     unfolding looked_up_after newly_met
     few_found =
         let c = shown words in
-        let all : new_in found ≡ newly_met c (earlier so.key so.before) key = ap new_in in_shown ∙ either (member key (keys_in c)) in
+        let all : found.blocks ≡ newly_met c (earlier so.key so.before) key = ap (λ (l : Looked). l.blocks) in_shown in
         let few : newly_met c (earlier so.key so.before) key ≤ length (blocks c.order (priority_in c) (keys_in c)) = length-keep _ (blocks c.order (priority_in c) (keys_in c)) in
         omega (arith, blocks_most words sound)
-      where
-        either : (b : Bool) → new_in (cond b (Held (standing_of (shown words) key) (newly_met (shown words) (earlier so.key so.before) key)) (Absent (newly_met (shown words) (earlier so.key so.before) key)))
-            ≡ newly_met (shown words) (earlier so.key so.before) key
-        either true = refl
-        either false = refl

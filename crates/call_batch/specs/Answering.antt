@@ -1,11 +1,7 @@
 -- How a batch is answered line by line: what is kept from one line to the next. Assumes nothing.
-use Rattle.std.specs.Prelude.{Bool, true, false, cond, List, [], ◌∷◌, ℕ, pred, ◌+◌, ◌<◌, ◌≤◌, eqb, length}
+use Rattle.std.specs.Prelude.{List, [], ◌∷◌, ℕ, pred, ◌+◌, ◌<◌, ◌≤◌}
 use Rattle.table.specs.Layout.{most_slots}
-use Rattle.table_limits.specs.Lengths.{slots_for}
 use Rattle.table_descend.specs.Lookup.{earlier, newly_met}
-use Rattle.call_replies.specs.declared.Refusal.TheVariants.{WrongLength, NotRising}
-use Rattle.call_replies.specs.declared.Batched.{Batched}
-use Rattle.call_replies.specs.declared.Batched.TheVariants.{Blocks, Refused}
 use Rattle.call_meaning.specs.Reasons.{shown}
 use Rattle.call_batch.specs.declared.Question.{Question}
 use Rattle.call_batch.specs.declared.Progress.{Progress}
@@ -45,12 +41,3 @@ pub record Ready (so : Progress) (key : ℕ) : Type 0 where
 abbrev pub Askable : List ℕ → Progress → List ℕ → Type 0
 Askable words so [] = Unit {0}
 Askable words so (key ∷ keys) = Ready so key × Askable words (line_after words so key) keys
-
--- The refusal of a batch before the table is judged, and an answer of no blocks where there is none.
-unfoldable pub checked : List ℕ → Bool → Batched
-checked words rises =
-    cond (eqb (slots_for (length words)) 0) (Refused WrongLength) (cond rises (Blocks 0) (Refused NotRising))
-
-abbrev pub is_accepted : Batched → Bool
-is_accepted (Blocks n) = true
-is_accepted (Refused r) = false

@@ -1,57 +1,41 @@
 // Making a table of any words: the blank one of an order and a salt, or that of these and a list of keys with their measures.
 #![tactic(auto)]
 
-ghost use Rattle.std.specs.Prelude.{◌≡◌, true, ◌<◌, ◌≤◌, length, replicate};
+ghost use Rattle.std.specs.Prelude.{◌≡◌, true, ◌<◌, ◌≤◌, length};
 ghost use Rattle.measure.specs.Measure.{measures_beside, are_measured};
-ghost use Rattle.priority.specs.Priority.{HoldsConstants};
 ghost use Rattle.table.specs.Layout.{most_slots, table_words};
 ghost use Rattle.table.specs.Contents.{entries_with};
 ghost use Rattle.table.specs.Table.{fresh};
 ghost use Rattle.table_prepare.specs.Prepared.{Keys};
-ghost use Rattle.call_replies.specs.Replies.{set_up_of, built_of};
+ghost use Rattle.call_replies.specs.Replies.{done_of};
 ghost use Rattle.call_meaning.specs.Calls.{set_up_reply, set_up_after, build_reply, build_after};
 
-use call_replies::{Built, Refusal, SetUp};
-use priority::CONSTANT_COUNT;
+use call_replies::Refusal;
+use priority::Constants;
 use table::{ORDER_WORD, SALT_WORD};
 
-// Make every word zero.
-fn clear(words: &mut [u64])
-    ensures { words.new ≡ replicate (length words.old) 0 }
-{
-    for i in 0..words.len() {
-        words[i] = 0;
-    }
-}
-
 // Make of any words of a right length the blank table of an order and a salt, which is any number. Refusals: 1, 2.
-pub fn set_up(table: &mut [u64], order: u64, salt: u64) -> SetUp
-    ensures result_value { set_up_of result ≡ set_up_reply table.old order }
+pub fn set_up(table: &mut [u64], order: u64, salt: u64) -> Result<(), Refusal>
+    ensures result_value { done_of result ≡ set_up_reply table.old order }
     ensures table_after { table.new ≡ set_up_after table.old order salt }
 {
-    if table_limits::slots_for(table.len()) == 0 {
-        return SetUp::Refused(Refusal::WrongLength);
+    if table_limits::slots_for(table.len()).is_none() {
+        return Err(Refusal::WrongLength);
     }
     if !table_limits::is_new_order(order) {
-        return SetUp::Refused(Refusal::WrongOrder);
+        return Err(Refusal::WrongOrder);
     }
-    clear(table);
+    table.fill(0);
     table[ORDER_WORD] = order;
     table[SALT_WORD] = salt;
-    SetUp::Done
+    Ok(())
 }
 
 // Whether lengths and corrections are one of each for each of `n` keys, and all of them measures within the rules.
 fn are_measured(n: usize, lengths: &[u64], corrections: &[i32]) -> bool
     ensures { result ≡ are_measured n lengths.now corrections.now }
 {
-    if lengths.len() != n {
-        return false;
-    }
-    if corrections.len() != n {
-        return false;
-    }
-    measure::are_measures(lengths, corrections)
+    lengths.len() == n && corrections.len() == n && measure::are_measures(lengths, corrections)
 }
 
 // Write the table of an order, a salt and keys with the measures beside them, with `tags` to work in.
@@ -63,12 +47,12 @@ fn write_within(
     many: usize,
     tags: &mut [u64],
     table: &mut [u64],
-    constants: &[u64; CONSTANT_COUNT],
+    constants: &Constants,
     salt: u64,
 )
     requires keys { Keys order keys.now }
-    requires corrections_value { are_measured (length keys.now) lengths.now corrections.now ≡ true }
-    requires many_nonzero { (0 < many) × (length keys.now ≤ many) × (length table.old ≡ table_words many) × (many ≤ most_slots) × (many ≤ length tags.old) × HoldsConstants constants.now }
+    requires measured { are_measured (length keys.now) lengths.now corrections.now ≡ true }
+    requires sized { (0 < many) × (length keys.now ≤ many) × (length table.old ≡ table_words many) × (many ≤ most_slots) × (many ≤ length tags.old) }
     ensures { table.new ≡ fresh many (record { order = order; salt = salt; entries = entries_with keys.now (measures_beside lengths.now corrections.now) }) }
 {
     measure::put_tags(lengths, corrections, tags);
@@ -87,11 +71,11 @@ fn write(
     salt: u64,
 )
     requires keys { Keys order keys.now }
-    requires corrections_value { are_measured (length keys.now) lengths.now corrections.now ≡ true }
-    requires many_nonzero { (0 < many) × (length keys.now ≤ many) × (length table.old ≡ table_words many) × (many ≤ most_slots) }
+    requires measured { are_measured (length keys.now) lengths.now corrections.now ≡ true }
+    requires sized { (0 < many) × (length keys.now ≤ many) × (length table.old ≡ table_words many) × (many ≤ most_slots) }
     ensures { table.new ≡ fresh many (record { order = order; salt = salt; entries = entries_with keys.now (measures_beside lengths.now corrections.now) }) }
 {
-    let constants = priority::constant_table();
+    let constants = Constants::new();
     let mut tags = [0u64; 4096];
     write_within(
         order,
@@ -115,26 +99,25 @@ pub fn build(
     list: &[u64],
     lengths: &[u64],
     corrections: &[i32],
-) -> Built
-    ensures result_value { built_of result ≡ build_reply table.old order list.now lengths.now corrections.now }
+) -> Result<(), Refusal>
+    ensures result_value { done_of result ≡ build_reply table.old order list.now lengths.now corrections.now }
     ensures table_after { table.new ≡ build_after table.old order salt list.now lengths.now corrections.now }
 {
-    let many = table_limits::slots_for(table.len());
-    if many == 0 {
-        return Built::Refused(Refusal::WrongLength);
-    }
+    let Some(many) = table_limits::slots_for(table.len()) else {
+        return Err(Refusal::WrongLength);
+    };
     if !table_limits::is_new_order(order) {
-        return Built::Refused(Refusal::WrongOrder);
+        return Err(Refusal::WrongOrder);
     }
     if !table_decode::is_rising(list) {
-        return Built::Refused(Refusal::NotRising);
+        return Err(Refusal::NotRising);
     }
     if !are_measured(list.len(), lengths, corrections) {
-        return Built::Refused(Refusal::WrongMeasure);
+        return Err(Refusal::WrongMeasure);
     }
     if many < list.len() {
-        return Built::Refused(Refusal::TooManyKeys);
+        return Err(Refusal::TooManyKeys);
     }
     write(order, list, lengths, corrections, many, table, salt);
-    Built::Done
+    Ok(())
 }

@@ -4,3 +4,4 @@ pub mod Written
 pub mod Knowing
 pub mod Editing
 pub mod Loading
+pub mod Judging

@@ -2,14 +2,13 @@
 #![tactic(auto)]
 
 ghost use Rattle.std.specs.Prelude.{◌≡◌, ◌<◌, ◌≤◌, length};
-ghost use Rattle.priority.specs.Priority.{HoldsConstants};
 ghost use Rattle.table.specs.Layout.{most_slots, table_words};
-ghost use Rattle.call_replies.specs.Replies.{deleted_of};
+ghost use Rattle.call_replies.specs.Replies.{ranked_of};
 ghost use Rattle.call_meaning.specs.Calls.{delete_reply, delete_after};
 ghost use Rattle.call_changes.specs.Known.{Known};
 
-use call_replies::{Deleted, Refusal};
-use priority::CONSTANT_COUNT;
+use call_replies::Refusal;
+use priority::Constants;
 use table::SIZE_WORD;
 
 // Delete a key from a sound table of `many` slots, its keys at the start of `keys` and the tags of their measures at the start of `tags`, as they
@@ -20,23 +19,23 @@ pub fn delete_known(
     key: u64,
     keys: &mut [u64],
     tags: &mut [u64],
-    constants: &[u64; CONSTANT_COUNT],
-) -> Deleted
+    constants: &Constants,
+) -> Result<u64, Refusal>
     requires known { Known many table.old keys.old tags.old }
-    requires le_key { (1 ≤ key) × HoldsConstants constants.now }
-    ensures result_value { deleted_of result ≡ delete_reply table.old key }
+    requires positive { 1 ≤ key }
+    ensures result_value { ranked_of result ≡ delete_reply table.old key }
     ensures table_after { table.new ≡ delete_after table.old key }
-    ensures known_2 { Known many table.new keys.new tags.new }
+    ensures known_after { Known many table.new keys.new tags.new }
 {
     let priority = table_entries::priority_of(table, many, key, constants);
     if !table_entries::holds(table, many, key, priority) {
-        return Deleted::Refused(Refusal::KeyAbsent);
+        return Err(Refusal::KeyAbsent);
     }
     let n = table[SIZE_WORD] as usize;
     let rank = table_entries::rank_of(table, many, key, priority);
     call_sets::take_out(keys, tags, n, key);
     call_changes::rewrite(table, many, keys, tags, n - 1, constants);
-    Deleted::Rank(rank)
+    Ok(rank)
 }
 
 // Delete a key from a table of `many` slots, with `keys` and `tags` to work in.
@@ -46,42 +45,39 @@ fn delete_in(
     key: u64,
     keys: &mut [u64],
     tags: &mut [u64],
-    constants: &[u64; CONSTANT_COUNT],
-) -> Deleted
-    requires { (0 < many) × (many ≤ most_slots) × (length table.old ≡ table_words many) × (1 ≤ key) × (many ≤ length keys.old) × (many ≤ length tags.old) × HoldsConstants constants.now }
-    ensures result_value { deleted_of result ≡ delete_reply table.old key }
+    constants: &Constants,
+) -> Result<u64, Refusal>
+    requires { (0 < many) × (many ≤ most_slots) × (length table.old ≡ table_words many) × (1 ≤ key) × (many ≤ length keys.old) × (many ≤ length tags.old) }
+    ensures result_value { ranked_of result ≡ delete_reply table.old key }
     ensures table_after { table.new ≡ delete_after table.old key }
 {
-    if !call_changes::know(table, many, keys, tags, constants) {
-        return Deleted::Refused(Refusal::NotSound);
-    }
+    call_changes::know(table, many, keys, tags, constants)?;
     delete_known(table, many, key, keys, tags, constants)
 }
 
 // Delete a key from a table of `many` slots, the key not zero, with room for the table's keys and tags, and the constants of the
 // priorities made for it.
-fn delete_with_room(table: &mut [u64], many: usize, key: u64) -> Deleted
+fn delete_with_room(table: &mut [u64], many: usize, key: u64) -> Result<u64, Refusal>
     requires { (0 < many) × (many ≤ most_slots) × (length table.old ≡ table_words many) × (1 ≤ key) }
-    ensures result_value { deleted_of result ≡ delete_reply table.old key }
+    ensures result_value { ranked_of result ≡ delete_reply table.old key }
     ensures table_after { table.new ≡ delete_after table.old key }
 {
-    let constants = priority::constant_table();
+    let constants = Constants::new();
     let mut keys = [0u64; 4096];
     let mut tags = [0u64; 4096];
     delete_in(table, many, key, &mut keys, &mut tags, &constants)
 }
 
 // Delete a key; the rank that it had. Refusals: 1, 3, 7, 9.
-pub fn delete(table: &mut [u64], key: u64) -> Deleted
-    ensures result_value { deleted_of result ≡ delete_reply table.old key }
+pub fn delete(table: &mut [u64], key: u64) -> Result<u64, Refusal>
+    ensures result_value { ranked_of result ≡ delete_reply table.old key }
     ensures table_after { table.new ≡ delete_after table.old key }
 {
-    let many = table_limits::slots_for(table.len());
-    if many == 0 {
-        return Deleted::Refused(Refusal::WrongLength);
-    }
+    let Some(many) = table_limits::slots_for(table.len()) else {
+        return Err(Refusal::WrongLength);
+    };
     if key == 0 {
-        return Deleted::Refused(Refusal::ZeroKey);
+        return Err(Refusal::ZeroKey);
     }
     delete_with_room(table, many, key)
 }

@@ -2,7 +2,7 @@
 use mathlib.Core.Bool.{true}
 use mathlib.Core.List.{List, [], ◌∷◌}
 use mathlib.Core.Path.{◌≡◌, refl, sym, ap, ◌∙◌, subst}
-use Prim.Native.Nat.{ℕ, suc, ◌-◌, ◌<◌, ◌≤◌}
+use Prim.Native.Nat.{ℕ, suc, ◌<◌, ◌≤◌}
 use native.Mathlib.Omega.{arith}
 use lib.ListN.{length, take}
 use Rattle.generator.specs.Generator.{next}
@@ -57,10 +57,9 @@ module _ (many : ℕ) (first : List ℕ) (seed count : ℕ) where
       }
 
   module _ (words keys tags : List ℕ) (state left : ℕ) (under : Under many first seed count words keys tags state left) where
-    pub under_more : 0 < left → (stepped : ℕ) → stepped ≡ next state → (words' keys' tags' : List ℕ) → Known many words' keys' tags' → length keys' ≡ length keys → length tags' ≡ length tags
-        → contents_of many words' ≡ with_done many (chosen stepped) (contents_of many words) → Under many first seed count words' keys' tags' stepped (left - 1)
-    under_more some stepped steps words' keys' tags' known long wide e =
-        let count_down : left ≡ suc (left - 1) = omega arith in
+    pub under_more : (fewer : ℕ) → left ≡ suc fewer → (stepped : ℕ) → stepped ≡ next state → (words' keys' tags' : List ℕ) → Known many words' keys' tags' → length keys' ≡ length keys → length tags' ≡ length tags
+        → contents_of many words' ≡ with_done many (chosen stepped) (contents_of many words) → Under many first seed count words' keys' tags' stepped fewer
+    under_more fewer count_down stepped steps words' keys' tags' known long wide e =
         let set = (contents_of many words).entries in
         let same : (contents_of many words').entries ≡ done many (chosen stepped) set = ap (λ (c : Contents). c.entries) e in
         record {
@@ -72,8 +71,8 @@ module _ (many : ℕ) (first : List ℕ) (seed count : ℕ) where
           ordered = ap (λ (c : Contents). c.order) e ∙ under.ordered;
           salted = ap (λ (c : Contents). c.salt) e ∙ under.salted;
           rest =
-              ap (done_all many (operations stepped (left - 1))) same
-              ∙ ap (λ (s : ℕ). done_all many (operations s (left - 1)) (done many (chosen s) set)) steps
+              ap (done_all many (operations stepped fewer)) same
+              ∙ ap (λ (s : ℕ). done_all many (operations s fewer) (done many (chosen s) set)) steps
               ∙ ap (λ (n : ℕ). done_all many (operations state n) set) (sym count_down)
               ∙ under.rest;
           room = omega (arith, under.room);

@@ -7,6 +7,7 @@ use Prim.Native.Nat.{ℕ}
 use lib.Dec.{eqb}
 use lib.ListN.{length}
 use borrow.Author.Tests.{eq-eqb, ne_eqb}
+use Rattle.std.specs.Prelude.{Result, Ok, Err}
 use Rattle.lists.specs.Lists.{member}
 use Rattle.lists.proofs.Tests.{by_test}
 use Rattle.treap.specs.Blocks.{blocks_met}
@@ -17,64 +18,68 @@ use Rattle.table_limits.specs.Lengths.{slots_for}
 use Rattle.table_judge.specs.Judge.{is_sound}
 use Rattle.table_descend.specs.Lookup.{standing_of, looked_up}
 use Rattle.table_descend.specs.declared.Looked.{Looked}
-use Rattle.table_descend.specs.declared.Looked.TheVariants as looked
 use Rattle.call_replies.specs.Replies.{Reply, looked_up_of, correction_of}
+use Rattle.call_replies.specs.declared.Refusal.{Refusal}
 use Rattle.call_replies.specs.declared.Refusal.TheVariants.{WrongLength, ZeroKey, NotSound}
-use Rattle.call_replies.specs.declared.LookedUp.{LookedUp}
-use Rattle.call_replies.specs.declared.LookedUp.TheVariants.{Held, Absent, Refused}
 use Rattle.call_meaning.specs.Reasons.{wrong_length, zero_key, not_sound, shown}
 use Rattle.call_meaning.specs.Calls.{rank_in, standing_in, lookup_refusal, lookup_reply, lookup_correction}
-
--- The answer for what the way down finds.
-abbrev pub answered : Looked → LookedUp
-answered (looked.Held s blocks) = Held s blocks
-answered (looked.Absent blocks) = Absent blocks
 
 -- What an accepted lookup gives.
 abbrev accepts : Contents → ℕ → Reply
 accepts c key =
     record { refusal = 0; numbers = standing_in c key ++ (blocks_met c.order (priority_in c) (keys_in c) key ∷ (measure_in c.entries key).length ∷ []) }
 
-answer_is : (c : Contents) (key : ℕ) → looked_up_of (answered (looked_up c key)) ≡ accepts c key
+answer_is : (c : Contents) (key : ℕ) → looked_up_of (Ok (looked_up c key)) ≡ accepts c key
 unfolding looked_up standing_of standing_in rank_in
 answer_is c key = by_test (member key (keys_in c)) (λ e. rw e) (λ e. rw (e, not_found c.entries key e))
 
-correction_is : (c : Contents) (key : ℕ) → correction_of (answered (looked_up c key)) ≡ (measure_in c.entries key).correction
+correction_is : (c : Contents) (key : ℕ) → correction_of (Ok (looked_up c key)) ≡ (measure_in c.entries key).correction
 unfolding looked_up standing_of
 correction_is c key = by_test (member key (keys_in c)) (λ e. rw e) (λ e. rw (e, not_found c.entries key e))
 
 module _ (words : List ℕ) (key : ℕ) where
   -- What a lookup that answers so meets.
-  abbrev Meets : LookedUp → Type 0
-  Meets answer = (looked_up_of answer ≡ lookup_reply words key) × (correction_of answer ≡ lookup_correction words key)
+  abbrev pub Meets : Result Looked Refusal → Type 0
+  Meets answer = record {
+    reply_value : looked_up_of answer ≡ lookup_reply words key;
+    correction_value : correction_of answer ≡ lookup_correction words key;
+  }
 
-  pub refused_length : slots_for (length words) ≡ 0 → Meets (Refused WrongLength)
+  pub refused_length : slots_for (length words) ≡ 0 → Meets (Err WrongLength)
   unfolding lookup_reply lookup_correction lookup_refusal wrong_length
-  refused_length e = rw e (refl, refl)
+  refused_length e = record { reply_value = rw e; correction_value = rw e }
 
   module _ (some : slots_for (length words) ≢ 0) where
     slots_right : eqb (slots_for (length words)) 0 ≡ false
     slots_right = ne_eqb (slots_for (length words)) 0 some
 
-    pub refused_zero : key ≡ 0 → Meets (Refused ZeroKey)
+    pub refused_zero : key ≡ 0 → Meets (Err ZeroKey)
     unfolding lookup_reply lookup_correction lookup_refusal wrong_length zero_key
-    refused_zero e = rw (slots_right, eq-eqb key 0 e) (refl, refl)
+    refused_zero e =
+        let zero = eq-eqb key 0 e in
+        record { reply_value = rw (slots_right, zero); correction_value = rw (slots_right, zero) }
 
     module _ (positive : key ≢ 0) where
-      pub refused_table : is_sound words ≡ false → Meets (Refused NotSound)
+      pub refused_table : is_sound words ≡ false → Meets (Err NotSound)
       unfolding lookup_reply lookup_correction lookup_refusal wrong_length zero_key not_sound
-      refused_table e = rw (slots_right, ne_eqb key 0 positive, e) (refl, refl)
+      refused_table e =
+          let some_key = ne_eqb key 0 positive in
+          record { reply_value = rw (slots_right, some_key, e); correction_value = rw (slots_right, some_key, e) }
 
       pub accepted : is_sound words ≡ true → (many : ℕ) → many ≡ slots_for (length words) → (found : Looked) → found ≡ looked_up (contents_of many words) key
-          → Meets (answered found)
+          → Meets (Ok found)
       unfolding lookup_reply lookup_correction lookup_refusal wrong_length zero_key not_sound shown
-      accepted sound many here found e = (
-        ap (λ (l : Looked). looked_up_of (answered l)) e
-            ∙ answer_is (contents_of many words) key
-            ∙ ap (λ (n : ℕ). accepts (contents_of n words) key) here
-            ∙ sym (rw (slots_right, ne_eqb key 0 positive, sound) refl),
-        ap (λ (l : Looked). correction_of (answered l)) e
-            ∙ correction_is (contents_of many words) key
-            ∙ ap (λ (n : ℕ). (measure_in (contents_of n words).entries key).correction) here
-            ∙ sym (rw (slots_right, ne_eqb key 0 positive, sound) refl),
-      )
+      accepted sound many here found e =
+          let some_key = ne_eqb key 0 positive in
+          record {
+            reply_value =
+                ap (λ (l : Looked). looked_up_of (Ok l)) e
+                ∙ answer_is (contents_of many words) key
+                ∙ ap (λ (n : ℕ). accepts (contents_of n words) key) here
+                ∙ sym (rw (slots_right, some_key, sound) refl);
+            correction_value =
+                ap (λ (l : Looked). correction_of (Ok l)) e
+                ∙ correction_is (contents_of many words) key
+                ∙ ap (λ (n : ℕ). (measure_in (contents_of n words).entries key).correction) here
+                ∙ sym (rw (slots_right, some_key, sound) refl);
+          }

@@ -24,12 +24,15 @@ refused number = record { refusal = number; numbers = 0 ∷ [] }
 
 module _ (text : Contents → List ℕ) (words output : List ℕ) where
   -- What a call that replies so and leaves this output meets.
-  abbrev Meets : Reply → List ℕ → Type 0
-  Meets reply after = (reply ≡ text_reply text words output) × (after ≡ text_output text words output)
+  abbrev pub Meets : Reply → List ℕ → Type 0
+  Meets reply after = record {
+    reply_value : reply ≡ text_reply text words output;
+    output_after : after ≡ text_output text words output;
+  }
 
   pub refused_length : slots_for (length words) ≡ 0 → Meets (refused 1) output
   unfolding text_reply text_output text_refusal wrong_length
-  refused_length e = (rw e, rw e)
+  refused_length e = record { reply_value = rw e; output_after = rw e }
 
   module _ (many : ℕ) (some : 0 < many) (most : many ≤ most_slots) (long : length words ≡ table_words many) where
     slots_right : eqb (slots_for (length words)) 0 ≡ false
@@ -39,7 +42,7 @@ module _ (text : Contents → List ℕ) (words output : List ℕ) where
     unfolding text_reply text_output text_refusal wrong_length not_sound
     refused_table e =
         let unsound = judged words many some most long false e in
-        (rw (slots_right, unsound), rw (slots_right, unsound))
+        record { reply_value = rw (slots_right, unsound); output_after = rw (slots_right, unsound) }
 
     module _ (sound : sound_with many words ≡ true) (n : ℕ) (size : n ≡ length (text (contents_of many words))) where
       text_here : text (shown words) ≡ text (contents_of many words)
@@ -50,11 +53,11 @@ module _ (text : Contents → List ℕ) (words output : List ℕ) where
       refused_short h after e =
           let right = judged words many some most long true sound in
           let short = lt-ltb (length output) (length (text (contents_of many words))) (omega (arith, size)) in
-          (rw (text_here, slots_right, right, short), rw (text_here, slots_right, right, short) e)
+          record { reply_value = rw (text_here, slots_right, right, short); output_after = rw (text_here, slots_right, right, short) e }
 
       pub accepted : n ≤ length output → (after : List ℕ) → after ≡ overwrite output 0 (text (contents_of many words)) → Meets (record { refusal = 0; numbers = n ∷ [] }) after
       unfolding text_reply text_output text_refusal wrong_length not_sound output_too_short
       accepted h after e =
           let right = judged words many some most long true sound in
           let fits = le-ltb (length output) (length (text (contents_of many words))) (omega (arith, size)) in
-          (rw (text_here, slots_right, right, fits, size), rw (text_here, slots_right, right, fits) e)
+          record { reply_value = rw (text_here, slots_right, right, fits, size); output_after = rw (text_here, slots_right, right, fits) e }

@@ -18,6 +18,7 @@ use Rattle.table.specs.Sound.{sound_with}
 use Rattle.table.proofs.Entries.{with_right}
 use Rattle.table.proofs.Soundness.{shown_fit, sound_measures}
 use Rattle.table.proofs.Tagged.{tagged_keys, tagged_tags, tagged_is}
+use Rattle.treap_columns.specs.declared.Columns.{Columns}
 use Rattle.table_prepare.specs.Prepared.{Keys}
 use Rattle.table_encode.proofs.Standings.{StandingsOf}
 use Rattle.text_pages.specs.Pages.{pages_of}
@@ -27,7 +28,7 @@ use Rattle.text_pages.proofs.Claims.{pages_length}
 use Rattle.text_pages.proofs.Shows.{printable, pages_shown}
 
 -- ---- what its lists show
-module _ (order salt : ℕ) {keys tags : List ℕ} (known : Keys order keys) (beside : Beside keys tags) {ranks counts leaders : List ℕ} (stands : StandingsOf order salt keys ranks counts leaders) where
+module _ (order salt : ℕ) {keys tags : List ℕ} (known : Keys order keys) (beside : Beside keys tags) {columns : Columns} (stands : StandingsOf order salt keys columns) where
   abbrev set : Contents
   set = tagged order salt keys tags
 
@@ -42,13 +43,13 @@ module _ (order salt : ℕ) {keys tags : List ℕ} (known : Keys order keys) (be
       with_right keys (map measure_at tags)
       (all_mapped (λ m. is_measure m ≡ true) measure_at tags (all_map (λ t. is_tag t ≡ true) (λ t. is_measure (measure_at t) ≡ true) tag_measures tags beside.right))
 
-  stands_here : StandingsOf order salt (keys_in set) ranks counts leaders
-  stands_here = subst (λ (ks : List ℕ). StandingsOf order salt ks ranks counts leaders) same_keys stands
+  stands_here : StandingsOf order salt (keys_in set) columns
+  stands_here = subst (λ (ks : List ℕ). StandingsOf order salt ks columns) same_keys stands
 
-  pub lists_printable : Printable keys tags ranks counts leaders
+  pub lists_printable : Printable keys tags columns
   lists_printable = printable set few (subst Rising same_keys known.rising) right same_keys (sym (tagged_tags keys tags beside)) stands_here
 
-  pub text_shown : pages_of set ≡ shown_pages keys tags ranks counts leaders
+  pub text_shown : pages_of set ≡ shown_pages keys tags columns
   text_shown = pages_shown set few (subst Rising same_keys known.rising) right same_keys (sym (tagged_tags keys tags beside)) stands_here
 
 -- ---- a sound table

@@ -1,33 +1,10 @@
 -- What a call replies, as document 01 counts it: the number of a refusal and the other numbers. Assumes nothing.
-use Rattle.std.specs.Prelude.{Bool, cond, List, [], ◌∷◌, ℕ, zero, suc, ℤ, pos}
+use Rattle.std.specs.Prelude.{Bool, cond, List, [], ◌∷◌, ℕ, zero, suc, ℤ, pos, Option, Some, None, Result, Ok, Err}
+use Rattle.paris_points.specs.declared.Size.{Size}
+use Rattle.table_descend.specs.declared.Standing.{Standing}
+use Rattle.table_descend.specs.declared.Looked.{Looked}
 use Rattle.call_replies.specs.declared.Refusal.{Refusal}
 use Rattle.call_replies.specs.declared.Refusal.TheVariants.{WrongLength, WrongOrder, ZeroKey, LowAboveHigh, NotRising, NotAnImage, NotSound, KeyHeld, KeyAbsent, TooManyKeys, OutputTooShort, WrongMeasure}
-use Rattle.call_replies.specs.declared.SetUp.{SetUp}
-use Rattle.call_replies.specs.declared.SetUp.TheVariants as set-up
-use Rattle.call_replies.specs.declared.Loaded.{Loaded}
-use Rattle.call_replies.specs.declared.Loaded.TheVariants as loaded
-use Rattle.call_replies.specs.declared.Built.{Built}
-use Rattle.call_replies.specs.declared.Built.TheVariants as built
-use Rattle.call_replies.specs.declared.Inserted.{Inserted}
-use Rattle.call_replies.specs.declared.Inserted.TheVariants as inserted
-use Rattle.call_replies.specs.declared.Deleted.{Deleted}
-use Rattle.call_replies.specs.declared.Deleted.TheVariants as deleted
-use Rattle.call_replies.specs.declared.LookedUp.{LookedUp}
-use Rattle.call_replies.specs.declared.LookedUp.TheVariants as looked-up
-use Rattle.call_replies.specs.declared.Batched.{Batched}
-use Rattle.call_replies.specs.declared.Batched.TheVariants as batched
-use Rattle.call_replies.specs.declared.Ranged.{Ranged}
-use Rattle.call_replies.specs.declared.Ranged.TheVariants as ranged
-use Rattle.call_replies.specs.declared.Written.{Written}
-use Rattle.call_replies.specs.declared.Written.TheVariants as written
-use Rattle.call_replies.specs.declared.ReadBack.{ReadBack}
-use Rattle.call_replies.specs.declared.ReadBack.TheVariants as read_back
-use Rattle.call_replies.specs.declared.Listed.{Listed}
-use Rattle.call_replies.specs.declared.Listed.TheVariants as listed
-use Rattle.call_replies.specs.declared.Stepped.{Stepped}
-use Rattle.call_replies.specs.declared.Stepped.TheVariants as stepped
-use Rattle.call_replies.specs.declared.Pointed.{Pointed}
-use Rattle.call_replies.specs.declared.Pointed.TheVariants as pointed
 
 -- "A refusal returns its number, all other numbers zero": the number, zero when the call is accepted, and the others.
 pub record Reply : Type 0 where
@@ -61,82 +38,59 @@ abbrev pub first_that_applies : List Reason → ℕ
 first_that_applies [] = 0
 first_that_applies (r ∷ rs) = cond r.applies r.number (first_that_applies rs)
 
--- "A call for which no number is named gives none when accepted."
-abbrev pub set_up_of : SetUp → Reply
-set_up_of set-up.Done = record { refusal = 0; numbers = [] }
-set_up_of (set-up.Refused r) = record { refusal = number_of r; numbers = [] }
-
-abbrev pub loaded_of : Loaded → Reply
-loaded_of loaded.Done = record { refusal = 0; numbers = [] }
-loaded_of (loaded.Refused r) = record { refusal = number_of r; numbers = [] }
-
-abbrev pub built_of : Built → Reply
-built_of built.Done = record { refusal = 0; numbers = [] }
-built_of (built.Refused r) = record { refusal = number_of r; numbers = [] }
+-- "A call for which no number is named gives none when accepted": set-up, load, build and the reader.
+abbrev pub done_of : Result Unit Refusal → Reply
+done_of (Ok done) = record { refusal = 0; numbers = [] }
+done_of (Err r) = record { refusal = number_of r; numbers = [] }
 
 -- "Insert and delete give the key's rank".
-abbrev pub inserted_of : Inserted → Reply
-inserted_of (inserted.Rank n) = record { refusal = 0; numbers = n ∷ [] }
-inserted_of (inserted.Refused r) = record { refusal = number_of r; numbers = 0 ∷ [] }
+abbrev pub ranked_of : Result ℕ Refusal → Reply
+ranked_of (Ok rank) = record { refusal = 0; numbers = rank ∷ [] }
+ranked_of (Err r) = record { refusal = number_of r; numbers = 0 ∷ [] }
 
-abbrev pub deleted_of : Deleted → Reply
-deleted_of (deleted.Rank n) = record { refusal = 0; numbers = n ∷ [] }
-deleted_of (deleted.Refused r) = record { refusal = number_of r; numbers = 0 ∷ [] }
+-- A number of things. A batch: "the reply gives the number of different blocks over all the search paths" (02, N2). A range: "the held keys
+-- .. and their number". The writer: "length is 15 + 14·b + 30·n; the writer gives it", 6 bytes more for each measured key (02, N4), and the
+-- salt's eight where it is not zero (02, N9). A listing: the length of its text; printed pages: "the number of bytes written" (02, N6).
+abbrev pub sized_of : Result ℕ Refusal → Reply
+sized_of (Ok n) = record { refusal = 0; numbers = n ∷ [] }
+sized_of (Err r) = record { refusal = number_of r; numbers = 0 ∷ [] }
 
 -- "Lookup gives held or absent, and rank, count and leader (zeros when absent). It also gives the number of different blocks" (01); lookups
 -- carry measures (02, N4): one for held, zero for absent, then the four numbers, then the length.
-abbrev pub looked_up_of : LookedUp → Reply
-looked_up_of (looked-up.Held s blocks) = record { refusal = 0; numbers = 1 ∷ s.rank ∷ s.count ∷ s.leader ∷ blocks ∷ s.length ∷ [] }
-looked_up_of (looked-up.Absent blocks) = record { refusal = 0; numbers = 0 ∷ 0 ∷ 0 ∷ 0 ∷ blocks ∷ 0 ∷ [] }
-looked_up_of (looked-up.Refused r) = record { refusal = number_of r; numbers = 0 ∷ 0 ∷ 0 ∷ 0 ∷ 0 ∷ 0 ∷ [] }
+abbrev pub stands_as : Option Standing → ℕ → List ℕ
+stands_as (Some s) blocks = 1 ∷ s.rank ∷ s.count ∷ s.leader ∷ blocks ∷ s.length ∷ []
+stands_as None blocks = 0 ∷ 0 ∷ 0 ∷ 0 ∷ blocks ∷ 0 ∷ []
+
+abbrev pub looked_up_of : Result Looked Refusal → Reply
+looked_up_of (Ok looked) = record { refusal = 0; numbers = stands_as looked.standing looked.blocks }
+looked_up_of (Err r) = record { refusal = number_of r; numbers = 0 ∷ 0 ∷ 0 ∷ 0 ∷ 0 ∷ 0 ∷ [] }
 
 -- The correction that a lookup gives, a number with a sign; zero where there is none.
-abbrev pub correction_of : LookedUp → ℤ
-correction_of (looked-up.Held s blocks) = s.correction
-correction_of (looked-up.Absent blocks) = pos 0
-correction_of (looked-up.Refused r) = pos 0
+abbrev pub correction_in : Option Standing → ℤ
+correction_in (Some s) = s.correction
+correction_in None = pos 0
 
--- "The reply gives the number of different blocks over all the search paths" (02, N2).
-abbrev pub batched_of : Batched → Reply
-batched_of (batched.Blocks n) = record { refusal = 0; numbers = n ∷ [] }
-batched_of (batched.Refused r) = record { refusal = number_of r; numbers = 0 ∷ [] }
-
--- "The held keys .. and their number".
-abbrev pub ranged_of : Ranged → Reply
-ranged_of (ranged.Wrote n) = record { refusal = 0; numbers = n ∷ [] }
-ranged_of (ranged.Refused r) = record { refusal = number_of r; numbers = 0 ∷ [] }
-
--- "Length is 15 + 14·b + 30·n; the writer gives it", 6 bytes more for each measured key (02, N4), and the salt's eight where it is not zero (02, N9).
-abbrev pub written_of : Written → Reply
-written_of (written.Bytes n) = record { refusal = 0; numbers = n ∷ [] }
-written_of (written.Refused r) = record { refusal = number_of r; numbers = 0 ∷ [] }
-
-abbrev pub read_back_of : ReadBack → Reply
-read_back_of read_back.Done = record { refusal = 0; numbers = [] }
-read_back_of (read_back.Refused r) = record { refusal = number_of r; numbers = [] }
-
--- The length of a listing's text; of printed pages "the number of bytes written" (02, N6).
-abbrev pub listed_of : Listed → Reply
-listed_of (listed.Bytes n) = record { refusal = 0; numbers = n ∷ [] }
-listed_of (listed.Refused r) = record { refusal = number_of r; numbers = 0 ∷ [] }
+abbrev pub correction_of : Result Looked Refusal → ℤ
+correction_of (Ok looked) = correction_in looked.standing
+correction_of (Err r) = pos 0
 
 -- "The step yields the least held key", one and the key, or "answers end", two zeros.
-abbrev pub stepped_of : Stepped → Reply
-stepped_of (stepped.Key k) = record { refusal = 0; numbers = 1 ∷ k ∷ [] }
-stepped_of stepped.End = record { refusal = 0; numbers = 0 ∷ 0 ∷ [] }
-stepped_of (stepped.Refused r) = record { refusal = number_of r; numbers = 0 ∷ 0 ∷ [] }
+abbrev pub stepped_of : Result (Option ℕ) Refusal → Reply
+stepped_of (Ok (Some key)) = record { refusal = 0; numbers = 1 ∷ key ∷ [] }
+stepped_of (Ok None) = record { refusal = 0; numbers = 0 ∷ 0 ∷ [] }
+stepped_of (Err r) = record { refusal = number_of r; numbers = 0 ∷ 0 ∷ [] }
 
 -- "The last's size in half points" (02, N5): one for a measured last, and its half points; "an unmeasured last has no size", two zeros.
-abbrev pub pointed_of : Pointed → Reply
-pointed_of (pointed.Size half_points rest) = record { refusal = 0; numbers = 1 ∷ half_points ∷ [] }
-pointed_of pointed.NotMeasured = record { refusal = 0; numbers = 0 ∷ 0 ∷ [] }
-pointed_of (pointed.Refused r) = record { refusal = number_of r; numbers = 0 ∷ 0 ∷ [] }
+abbrev pub pointed_of : Result (Option Size) Refusal → Reply
+pointed_of (Ok (Some size)) = record { refusal = 0; numbers = 1 ∷ size.half_points ∷ [] }
+pointed_of (Ok None) = record { refusal = 0; numbers = 0 ∷ 0 ∷ [] }
+pointed_of (Err r) = record { refusal = number_of r; numbers = 0 ∷ 0 ∷ [] }
 
 -- "The signed rest"; zero where there is none.
-abbrev pub rest_of : Pointed → ℤ
-rest_of (pointed.Size half_points rest) = rest
-rest_of pointed.NotMeasured = pos 0
-rest_of (pointed.Refused r) = pos 0
+abbrev pub rest_of : Result (Option Size) Refusal → ℤ
+rest_of (Ok (Some size)) = size.rest
+rest_of (Ok None) = pos 0
+rest_of (Err r) = pos 0
 
 module _ {A : Type 0} where
   -- "A refusal returns its number, all other numbers zero, and changes no lent memory": what a call that was refused under this

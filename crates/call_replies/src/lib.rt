@@ -1,150 +1,68 @@
-// What the calls answer.
+// Why a call is turned down; what the calls answer otherwise are results over this.
 #![tactic(auto)]
 
 ghost use Rattle.std.specs.Prelude.{◌≡◌};
 ghost use Rattle.call_replies.specs.Replies.{number_of};
 
-use table_descend::Standing;
+use std::error::Error;
+use std::fmt;
 
-// Why a call was turned down.
-#[derive(Clone, Copy)]
+// Why a call was turned down, by the documents' numbers.
+#[derive(Clone, Copy, Debug, PartialEq, Eq)]
 pub enum Refusal {
     // The number of words is no table's.
-    WrongLength,
+    WrongLength = 1,
     // The order is outside 3 to 255.
-    WrongOrder,
+    WrongOrder = 2,
     // The key is zero.
-    ZeroKey,
+    ZeroKey = 3,
     // Low is above high.
-    LowAboveHigh,
+    LowAboveHigh = 4,
     // The keys of a list or of a batch do not rise strictly, or one is zero.
-    NotRising,
+    NotRising = 5,
     // The bytes are no image that the writer makes.
-    NotAnImage,
+    NotAnImage = 6,
     // The table is not sound.
-    NotSound,
+    NotSound = 7,
     // The key to insert is held.
-    KeyHeld,
+    KeyHeld = 8,
     // The key to delete is absent.
-    KeyAbsent,
+    KeyAbsent = 9,
     // There would be more keys than slots.
-    TooManyKeys,
+    TooManyKeys = 10,
     // The output is longer than the room for it.
-    OutputTooShort,
+    OutputTooShort = 11,
     // A measure is outside the rules, is missing or is left over.
-    WrongMeasure,
+    WrongMeasure = 12,
 }
 
-// The number of a refusal, 1 to 12.
-pub fn number(reason: Refusal) -> u64
-    ensures { result ≡ number_of reason }
-{
-    match reason {
-        Refusal::WrongLength => 1,
-        Refusal::WrongOrder => 2,
-        Refusal::ZeroKey => 3,
-        Refusal::LowAboveHigh => 4,
-        Refusal::NotRising => 5,
-        Refusal::NotAnImage => 6,
-        Refusal::NotSound => 7,
-        Refusal::KeyHeld => 8,
-        Refusal::KeyAbsent => 9,
-        Refusal::TooManyKeys => 10,
-        Refusal::OutputTooShort => 11,
-        Refusal::WrongMeasure => 12,
+impl Refusal {
+    // The number of a refusal, 1 to 12.
+    pub fn number(self) -> u64
+        ensures { result ≡ number_of self }
+    {
+        self as u64
     }
 }
 
-// The answer of a set-up.
-#[derive(Clone, Copy)]
-pub enum SetUp {
-    Done,
-    Refused(Refusal),
+impl fmt::Display for Refusal {
+    fn fmt<W: fmt::Write>(&self, f: &mut fmt::Formatter<W>) -> fmt::Result {
+        let text = match self {
+            Refusal::WrongLength => "the number of words is no table's",
+            Refusal::WrongOrder => "the order is outside 3 to 255",
+            Refusal::ZeroKey => "the key is zero",
+            Refusal::LowAboveHigh => "low is above high",
+            Refusal::NotRising => "the keys do not rise strictly, or one is zero",
+            Refusal::NotAnImage => "the bytes are no image",
+            Refusal::NotSound => "the table is not sound",
+            Refusal::KeyHeld => "the key is held",
+            Refusal::KeyAbsent => "the key is absent",
+            Refusal::TooManyKeys => "there would be more keys than slots",
+            Refusal::OutputTooShort => "the output is too short",
+            Refusal::WrongMeasure => "a measure is outside the rules, is missing or is left over",
+        };
+        write!(f, "{text}")
+    }
 }
 
-// The answer of a load.
-#[derive(Clone, Copy)]
-pub enum Loaded {
-    Done,
-    Refused(Refusal),
-}
-
-// The answer of a build.
-#[derive(Clone, Copy)]
-pub enum Built {
-    Done,
-    Refused(Refusal),
-}
-
-// The answer of an insert: the rank that the key now has.
-#[derive(Clone, Copy)]
-pub enum Inserted {
-    Rank(u64),
-    Refused(Refusal),
-}
-
-// The answer of a delete: the rank that the key had.
-#[derive(Clone, Copy)]
-pub enum Deleted {
-    Rank(u64),
-    Refused(Refusal),
-}
-
-// The answer of a lookup: where a held key stands, with its measure, and how many blocks hold the keys that were compared.
-#[derive(Clone, Copy)]
-pub enum LookedUp {
-    Held(Standing, usize),
-    Absent(usize),
-    Refused(Refusal),
-}
-
-// The answer of a batch of lookups: how many different blocks hold the keys that were compared.
-#[derive(Clone, Copy)]
-pub enum Batched {
-    Blocks(usize),
-    Refused(Refusal),
-}
-
-// The answer of a writing: how many bytes the image has.
-#[derive(Clone, Copy)]
-pub enum Written {
-    Bytes(usize),
-    Refused(Refusal),
-}
-
-// The answer of a reading.
-#[derive(Clone, Copy)]
-pub enum ReadBack {
-    Done,
-    Refused(Refusal),
-}
-
-// The answer of a listing, and of a printing of pages: how many bytes the text has.
-#[derive(Clone, Copy)]
-pub enum Listed {
-    Bytes(usize),
-    Refused(Refusal),
-}
-
-// The answer of a range: how many keys were written.
-#[derive(Clone, Copy)]
-pub enum Ranged {
-    Wrote(usize),
-    Refused(Refusal),
-}
-
-// The answer of a step: the next key, or the end.
-#[derive(Clone, Copy)]
-pub enum Stepped {
-    Key(u64),
-    End,
-    Refused(Refusal),
-}
-
-// The answer for a size in Paris points: the half points of a measured last and the signed rest.
-#[derive(Clone, Copy)]
-pub enum Pointed {
-    Size(u64, i64),
-    NotMeasured,
-    Refused(Refusal),
-}
+impl Error for Refusal {}

@@ -4,16 +4,16 @@ use mathlib.Core.Bool.{true, false}
 use mathlib.Core.List.{List, [], ◌∷◌, map}
 use mathlib.Core.Logic.{⊎_elim}
 use mathlib.Core.Path.{◌≡◌, refl, sym, ap, subst, ◌∙◌}
-use Prim.Native.Nat.{ℕ, zero, suc, ◌+◌, ◌<◌, ◌≤◌}
-use native.Mathlib.Numerals.{add-one}
+use Prim.Native.Nat.{ℕ, zero, suc, ◌<◌, ◌≤◌}
 use native.Mathlib.Omega.{arith}
 use lib.Dec.{eqb, ltb}
 use lib.ListN.{length, get_or, take}
-use lib.Seq.{length-take-le, take-suc, take-take, get_or-take}
-use borrow.Author.Tests.{eqb-true, eq-eqb, ne_eqb, lt-ltb, le-ltb}
+use lib.Seq.{length-take-le, get_or-take}
+use borrow.Author.Tests.{eqb-true, eq-eqb, ne_eqb, lt-ltb, le-ltb, ltb-true, ltb-false}
+use Rattle.std.specs.List.Sorted.{IsNonDecreasingBy, IsPartitionPoint}
 use Rattle.lists.specs.Lists.{All, Rising, member}
 use Rattle.lists.proofs.Tests.{Compared, compared, less, same, more, true_or_false, or_true_cases, or_false_left, or_false_right}
-use Rattle.lists.proofs.Keep.{all_map, all_append, keep_none, length-keep}
+use Rattle.lists.proofs.Keep.{all_map, all_at, all_of_indices, keep_none, length-keep}
 use Rattle.lists.proofs.Membership.{all_member}
 use Rattle.table.specs.Contents.{Entry, entry_keys, key_below}
 use Rattle.call_sets.specs.Sets.{joined, without}
@@ -48,31 +48,25 @@ index_is key (k ∷ keys) (suc at) rise h low high =
     ap suc (index_is key keys at rise.1 (omega arith) low.1 (λ l. high (omega arith)))
     ∙ sym (index_next key k keys (lt-ltb k key low.0))
 
--- the loop: the keys before index `at` are below the key
-pub record Passed (keys : List ℕ) (n key at : ℕ) : Type 0 where
-  pub reach : at ≤ n
-  pub low : All (λ k. k < key) (take at keys)
+-- rising keys never fall
+pub never_falls : (keys : List ℕ) → Rising keys → IsNonDecreasingBy (λ k. k) keys
+never_falls [] rise i j d h l = absurd (omega arith)
+never_falls (k ∷ keys) rise zero zero d h l = omega arith
+never_falls (k ∷ keys) rise zero (suc j) d h l = let above : k < get_or keys j d = all_at (λ x. k < x) keys j d rise.0 (omega arith) in omega arith
+never_falls (k ∷ keys) rise (suc i) zero d h l = absurd (omega arith)
+never_falls (k ∷ keys) rise (suc i) (suc j) d h l = never_falls keys rise.1 i j d (omega arith) (omega arith)
 
-pub passed_none : (keys : List ℕ) (n key : ℕ) → Passed keys n key 0
-passed_none keys n key = record { reach = omega arith; low = tt }
-
-module _ (keys : List ℕ) (n key at : ℕ) (fit : n ≤ length keys) (s : Passed keys n key at) where
-  pub passed_more : at < n → get_or keys at 0 < key → Passed keys n key (at + 1)
-  passed_more h below =
-      record {
-        reach = omega arith;
-        low =
-            rw add-one
-            (subst (All (λ k. k < key)) (sym (take-suc keys at 0 (omega arith)))
-            (all_append (λ k. k < key) (take at keys) (get_or keys at 0 ∷ []) s.low (below, tt)));
-      }
-
-  pub passed_all : Rising (take n keys) → (at < n → key ≤ get_or keys at 0) → at ≡ index_of key (take n keys)
-  passed_all rise high =
-      let many = length-take-le n keys fit in
-      index_is key (take n keys) at rise (omega (arith, s.reach))
-      (subst (All (λ k. k < key)) (sym (take-take at n keys s.reach)) s.low)
-      (λ h. omega (arith, get_or-take n keys at 0 (omega arith), high (omega arith)))
+-- the keys before the index are below the key, and those from there on are not
+pub parted_there : (key : ℕ) (keys : List ℕ) (at : ℕ) → Rising keys → at ≤ length keys
+    → IsPartitionPoint (λ k. ltb k key ≡ true) (λ k. ltb k key ≡ false) keys at → at ≡ index_of key keys
+parted_there key keys at rise fit point =
+    index_is key keys at rise fit
+    (all_of_indices (λ k. k < key) (take at keys) 0
+    (λ i l.
+    let before : i < at = omega (arith, length-take-le at keys fit) in
+    let below = ltb-true (get_or keys i 0) key (point.0 i 0 (omega arith) before) in
+    omega (arith, get_or-take at keys i 0 before)))
+    (λ l. ltb-false (get_or keys at 0) key (point.1 at 0 (omega arith) l))
 
 pub index_below : (key : ℕ) (keys : List ℕ) → Rising keys → member key keys ≡ true → index_of key keys < length keys
 index_below key [] rise m = absurd (true_or_false false m refl)

@@ -11,11 +11,7 @@ fn index_of(keys: &[u64], n: usize, key: u64) -> usize
     requires { (n ≤ length keys.now) × Rising (take n keys.now) }
     ensures { result ≡ index_of key (take n keys.now) }
 {
-    let mut at = 0;
-    while at < n && keys[at] < key {
-        at += 1;
-    }
-    at
+    keys[..n].partition_point(|k| *k < key)
 }
 
 // Put a value in at an index among the first `n`; those from there on move up.
@@ -23,11 +19,7 @@ fn put_at(list: &mut [u64], n: usize, at: usize, value: u64)
     requires { (n < length list.old) × (at ≤ n) }
     ensures { list.new ≡ overwrite list.old 0 (put_at at value (take n list.old)) }
 {
-    let mut i = n;
-    while at < i {
-        list[i] = list[i - 1];
-        i -= 1;
-    }
+    list.copy_within(at..n, at + 1);
     list[at] = value;
 }
 
@@ -36,9 +28,7 @@ fn remove_at(list: &mut [u64], n: usize, at: usize)
     requires { (n ≤ length list.old) × (at < n) }
     ensures { list.new ≡ overwrite list.old 0 (remove_at at (take n list.old)) }
 {
-    for i in at + 1..n {
-        list[i - 1] = list[i];
-    }
+    list.copy_within(at + 1..n, at);
 }
 
 // Put a key into its place among the first `n` of `keys`, which rise, and its tag at the same index among the first `n` of `tags`. Internal to

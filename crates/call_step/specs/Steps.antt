@@ -1,8 +1,9 @@
 -- What a step replies and where it leaves its place, and what steps in a row reply. Assumes nothing.
-use Rattle.std.specs.Prelude.{Bool, true, false, cond, List, [], ◌∷◌, ◌++◌, map, ℕ, zero, suc, ◌+◌, ◌-◌, ◌^◌, eqb, take, replicate}
+use Rattle.std.specs.Prelude.{Bool, true, false, cond, List, [], ◌∷◌, ◌++◌, map, ℕ, zero, suc, ◌+◌, ◌-◌, ◌^◌, eqb, take, replicate, Option, Some, None, Result, Ok, Err}
 use Rattle.table.specs.Contents.{keys_in}
 use Rattle.table_least.specs.LeastKey.{least_within}
 use Rattle.call_replies.specs.Replies.{Reply, first_that_applies, unless_refused}
+use Rattle.call_replies.specs.declared.Refusal.{Refusal}
 use Rattle.call_meaning.specs.Reasons.{wrong_length, not_sound, shown}
 use Rattle.call_step.specs.declared.Place.{Place}
 
@@ -60,6 +61,12 @@ passed key place = cond (eqb key greatest_key) (finished place) (place_of (key +
 -- The place after this key was found; "if there is none it sets done".
 unfoldable pub moved : ℕ → Place → Place
 moved key place = cond (eqb key 0) (finished place) (passed key place)
+
+-- The place after a step that answered so: past the key; done at the end; and as it was after a refusal.
+abbrev pub place_after : Result (Option ℕ) Refusal → Place → Place
+place_after (Ok (Some key)) place = passed key place
+place_after (Ok None) place = finished place
+place_after (Err r) place = place
 
 -- "If not done, the step yields the least held key from next to high ... If done, it answers end".
 unfoldable pub step_reply : List ℕ → Place → Reply

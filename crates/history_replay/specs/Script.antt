@@ -6,10 +6,19 @@ use Rattle.call_meaning.specs.Calls.{set_up_refusal}
 use Rattle.history.specs.Call.{Call, History, calls_of}
 use Rattle.history.specs.Call.Call.{set_up, insert, delete, lookup}
 use Rattle.history.specs.Theorems.{Table, book_after}
+use Rattle.history_replay.specs.declared.ScriptCall.{ScriptCall}
+use Rattle.history_replay.specs.declared.ScriptCall.TheVariants.{SetUp, Insert, Delete, LookUp}
 
 -- 0 is a set-up with salt zero, 1 an insert of a key that is not measured, 2 a delete, and any other number a lookup.
 unfoldable pub call_of : ℕ → ℕ → Call
 call_of kind value = cond (eqb kind 0) (set_up value 0) (cond (eqb kind 1) (insert value unmeasured) (cond (eqb kind 2) (delete value) (lookup value)))
+
+-- The call that the code's call of a script stands for.
+abbrev pub call_meant : ScriptCall → Call
+call_meant (SetUp order) = set_up order 0
+call_meant (Insert key) = insert key unmeasured
+call_meant (Delete key) = delete key
+call_meant (LookUp key) = lookup key
 
 -- The calls of a script, in their order; a word left over at its end is no call.
 abbrev pub calls_in : List ℕ → List Call

@@ -3,7 +3,7 @@
 
 ghost use Rattle.std.specs.Prelude.{◌≡◌};
 ghost use Rattle.history.specs.Call.{run, runs};
-ghost use Rattle.history_replay.specs.Script.{call_of, calls_in, BuiltFromBook};
+ghost use Rattle.history_replay.specs.Script.{call_of, call_meant, calls_in, BuiltFromBook};
 
 // The numbers of the calls; any other number is a lookup.
 pub const SET_UP: u64 = 0;
@@ -12,23 +12,51 @@ pub const INSERT: u64 = 1;
 
 pub const DELETE: u64 = 2;
 
-// One call, with its order or key; a set-up has salt zero, and a key that is inserted is not measured.
-fn run_call(table: &mut [u64], kind: u64, value: u64)
-    ensures { table.new ≡ run (call_of kind value) table.old }
-{
-    if kind == SET_UP {
-        index::set_up(table, value, 0);
-        return;
+// A call of a script, with its order or key.
+#[derive(Clone, Copy)]
+enum ScriptCall {
+    SetUp(u64),
+    Insert(u64),
+    Delete(u64),
+    LookUp(u64),
+}
+
+impl ScriptCall {
+    // The call that two words of a script name.
+    fn named(kind: u64, value: u64) -> ScriptCall
+        ensures { call_meant result ≡ call_of kind value }
+    {
+        if kind == SET_UP {
+            return ScriptCall::SetUp(value);
+        }
+        if kind == INSERT {
+            return ScriptCall::Insert(value);
+        }
+        if kind == DELETE {
+            return ScriptCall::Delete(value);
+        }
+        ScriptCall::LookUp(value)
     }
-    if kind == INSERT {
-        index::insert(table, value, 0, 0);
-        return;
+
+    // Run it over a table: a set-up has salt zero, and a key that is inserted is not measured. What it answers is not reported.
+    fn run(self, table: &mut [u64])
+        ensures { table.new ≡ run (call_meant self) table.old }
+    {
+        match self {
+            ScriptCall::SetUp(order) => {
+                let _ = index::set_up(table, order, 0);
+            }
+            ScriptCall::Insert(key) => {
+                let _ = index::insert(table, key, 0, 0);
+            }
+            ScriptCall::Delete(key) => {
+                let _ = index::delete(table, key);
+            }
+            ScriptCall::LookUp(key) => {
+                let _ = index::look_up(table, key);
+            }
+        }
     }
-    if kind == DELETE {
-        index::delete(table, value);
-        return;
-    }
-    index::look_up(table, value);
 }
 
 // Run the calls of a script, two words a call, over a table; refused calls change nothing. Where the first call is an accepted set-up, the
@@ -37,10 +65,9 @@ pub fn replay(table: &mut [u64], script: &[u64])
     ensures table_after { table.new ≡ runs (calls_in script.now) table.old }
     ensures built_from_book { BuiltFromBook script.now table.old table.new }
 {
-    let n = script.len();
-    let mut at = 0;
-    while 1 < n - at {
-        run_call(table, script[at], script[at + 1]);
-        at += 2;
+    let mut rest = script;
+    while let [kind, value, later @ ..] = rest {
+        ScriptCall::named(*kind, *value).run(table);
+        rest = later;
     }
 }

@@ -18,14 +18,13 @@ pub fn run_end(weights: &[u64], sorted: &[u16], low: usize) -> usize
     ensures { RunEnds weights.now sorted.now low result }
 {
     let weight = weight_of(weights, sorted, low);
-    let mut high = low + 1;
-    while high < sorted.len() {
+    // By index, since that is the answer.
+    for high in low + 1..sorted.len() {
         if weight_of(weights, sorted, high) != weight {
             return high;
         }
-        high += 1;
     }
-    high
+    sorted.len()
 }
 
 // How many runs there are. Internal to this library's crates, as `run_end` is.

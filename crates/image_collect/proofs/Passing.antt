@@ -5,9 +5,12 @@ use mathlib.Core.List.{List, [], ◌∷◌, ◌++◌, append_assoc, append-nil}
 use mathlib.Core.Path.{◌≡◌, refl, sym, ap, ap₂, ◌∙◌}
 use Prim.Native.Nat.{ℕ, suc, ◌+◌, ◌-◌, ◌<◌, ◌≤◌}
 use native.Mathlib.Omega.{arith}
+use Rattle.std.proofs.Common.{Some, None}
+use Rattle.std.proofs.lemmas.Option.{cond_some}
 use lib.ListN.{length, take, drop, set, length-append, length-drop, length-map}
 use lib.Seq.{drop-drop, take_all}
 use Rattle.lists.specs.Lists.{overwrite}
+use Rattle.lists.proofs.Tests.{true_or_false}
 use Rattle.lists.proofs.Overwrite.{overwrite_none, overwrite-length}
 use Rattle.lists.proofs.Parts.{written_more}
 use Rattle.measure.specs.Tag.{tag_of}
@@ -16,8 +19,6 @@ use Rattle.table.specs.Contents.{Entry, entry_keys}
 use Rattle.table.specs.Tags.{entry_tags}
 use Rattle.image.specs.Layout.{key_at}
 use Rattle.image.specs.Image.{header_span, number_of, field_at, node_span, entry_shown, node_entries, nodes_span}
-use Rattle.image_collect.specs.declared.Checked.{Checked}
-use Rattle.image_collect.specs.declared.Checked.TheVariants.{End, Broken}
 use Rattle.image_collect.specs.Reading.{is_node, are_nodes, checked}
 use Rattle.image_collect.proofs.Nodes.{node_inside}
 
@@ -134,42 +135,28 @@ module _ (records : List ℕ) (keys-before tags-before : List ℕ) (held from : 
         all_span : nodes_span held records ≡ at
         all_span = s.span_rest ∙ ap (λ (m : ℕ). at + nodes_span m (drop at records)) none_left ∙ omega arith
 
-        pub ends_here : End at ≡ checked held records
+        pub ends_here : Some at ≡ checked held records
         unfolding checked
-        ends_here = rw all_nodes (ap End (sym all_span))
-
-        pub keys_written : keys ≡ overwrite keys-before from (entry_keys (node_entries held records))
-        keys_written = s.keys_hold ∙ ap (λ (es : List Entry). overwrite keys-before from (entry_keys es)) (sym all_done)
-
-        pub tags_written : tags ≡ overwrite tags-before from (entry_tags (node_entries held records))
-        tags_written = s.tags_hold ∙ ap (λ (es : List Entry). overwrite tags-before from (entry_tags es)) (sym all_done)
+        ends_here = rw all_nodes (ap Some (sym all_span))
 
 -- ---- what an answer says of the records
-pub broken : (held : ℕ) (records : List ℕ) → are_nodes held records ≡ false → Broken ≡ checked held records
+pub broken : (held : ℕ) (records : List ℕ) → are_nodes held records ≡ false → None ≡ checked held records
 unfolding checked
 broken held records e = rw e
 
-abbrev says : Checked → Bool
-says (End n) = true
-says Broken = false
+pub claims_nothing : (held : ℕ) (records : List ℕ) → are_nodes held records ≡ false → {P : Type 0} → are_nodes held records ≡ true → P
+claims_nothing held records e t = absurd (true_or_false (are_nodes held records) t e)
 
-abbrev end_in : Checked → ℕ
-end_in (End n) = n
-end_in Broken = 0
-
-says_cond : (b : Bool) (n : ℕ) → says (cond b (End n) Broken) ≡ b
-says_cond true n = refl
-says_cond false n = refl
+-- an answer that is a number where a test passes, and none where it does not
+pub cond_none : {A : Type 0} (b : Bool) (x : A) → cond b (Some x) None ≡ None → b ≡ false
+cond_none true x e = cc
+cond_none false x e = refl
 
 module _ (held : ℕ) (records : List ℕ) where
-  pub told_nodes : (n : ℕ) → checked held records ≡ End n → are_nodes held records ≡ true
+  pub told_end : (n : ℕ) → checked held records ≡ Some n → (are_nodes held records ≡ true) × (nodes_span held records ≡ n)
   unfolding checked
-  told_nodes n e = sym (says_cond (are_nodes held records) (nodes_span held records)) ∙ ap says e
+  told_end n e = cond_some (are_nodes held records) (nodes_span held records) n e
 
-  pub told_broken : checked held records ≡ Broken → are_nodes held records ≡ false
+  pub told_broken : checked held records ≡ None → are_nodes held records ≡ false
   unfolding checked
-  told_broken e = sym (says_cond (are_nodes held records) (nodes_span held records)) ∙ ap says e
-
-  pub told_end : (n : ℕ) → checked held records ≡ End n → n ≡ nodes_span held records
-  unfolding checked
-  told_end n e = sym (ap end_in e) ∙ ap (λ (b : Bool). end_in (cond b (End (nodes_span held records)) Broken)) (told_nodes n e)
+  told_broken e = cond_none (are_nodes held records) (nodes_span held records) e

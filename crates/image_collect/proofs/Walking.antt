@@ -5,12 +5,13 @@ use mathlib.Core.List.{List, [], ◌++◌, map, map-append, append_assoc, append
 use mathlib.Core.Path.{◌≡◌, refl, sym, ap, ap₂, ◌∙◌}
 use Prim.Native.Nat.{ℕ, suc, ◌+◌, ◌-◌, ◌<◌, ◌≤◌}
 use native.Mathlib.Omega.{arith}
+use Rattle.std.proofs.Common.{Some, None}
 use lib.Dec.{leb}
 use lib.ListN.{length, drop, length-append, length-drop, length-map}
 use lib.Seq.{drop-drop}
 use borrow.Author.Tests.{le-leb, lt-leb}
 use Rattle.lists.specs.Lists.{overwrite}
-use Rattle.lists.proofs.Tests.{and_false_right, and_both}
+use Rattle.lists.proofs.Tests.{true_or_false, and_false_right, and_both}
 use Rattle.lists.proofs.Overwrite.{overwrite_none, overwrite-length}
 use Rattle.lists.proofs.Parts.{overwrite_next}
 use Rattle.measure.specs.Tag.{tag_of}
@@ -19,7 +20,6 @@ use Rattle.table.specs.Contents.{Entry, entry_keys}
 use Rattle.table.specs.Tags.{entry_tags}
 use Rattle.image.specs.Layout.{block_bytes, held_at}
 use Rattle.image.specs.Image.{header_span, field_at, node_entries, nodes_span, block_entries}
-use Rattle.image_collect.specs.declared.Collected.TheVariants.{Keys, Broken}
 use Rattle.image_collect.specs.Reading.{are_nodes, intact, blocks_of, entries_of, readable, collected}
 use Rattle.image_collect.proofs.Nodes.{entries_number, nodes_inside}
 use Rattle.image_collect.proofs.Passing.{field_from}
@@ -49,9 +49,13 @@ module _ (bytes keys-before tags-before : List ℕ) where
     pub keys_hold : keys ≡ overwrite keys-before 0 (entry_keys done)
     pub tags_hold : tags ≡ overwrite tags-before 0 (entry_tags done)
 
-  pub broken : readable (length keys-before) bytes ≡ false → Broken ≡ collected (length keys-before) bytes
+  -- ---- what is answered of records that cannot be read
+  pub broken : readable (length keys-before) bytes ≡ false → None ≡ collected (length keys-before) bytes
   unfolding collected
   broken e = rw e
+
+  pub claims_nothing : readable (length keys-before) bytes ≡ false → {P : Type 0} → readable (length keys-before) bytes ≡ true → P
+  claims_nothing e t = absurd (true_or_false (readable (length keys-before) bytes) t e)
 
   pub no_header : length bytes < header_span bytes → readable (length keys-before) bytes ≡ false
   unfolding readable
@@ -191,12 +195,10 @@ module _ (bytes keys-before tags-before : List ℕ) where
             (s.intact_rest ∙ ap (λ (m : ℕ). intact m (drop at bytes)) none_left)
             (le-leb (length (entries_of bytes)) (length keys-before) (omega (arith, ap length all_done, s.count, s.fits))))
 
-        pub counted : Keys n ≡ collected (length keys-before) bytes
+        pub all_collected : (Some n ≡ collected (length keys-before) bytes) × (keys ≡ overwrite keys-before 0 (entry_keys (entries_of bytes))) × (tags ≡ overwrite tags-before 0 (entry_tags (entries_of bytes)))
         unfolding collected
-        counted = rw can_be_read (ap Keys (s.count ∙ sym (ap length all_done)))
-
-        pub keys_collected : keys ≡ overwrite keys-before 0 (entry_keys (entries_of bytes))
-        keys_collected = s.keys_hold ∙ ap (λ (es : List Entry). overwrite keys-before 0 (entry_keys es)) (sym all_done)
-
-        pub tags_collected : tags ≡ overwrite tags-before 0 (entry_tags (entries_of bytes))
-        tags_collected = s.tags_hold ∙ ap (λ (es : List Entry). overwrite tags-before 0 (entry_tags es)) (sym all_done)
+        all_collected = (
+          rw can_be_read (ap Some (s.count ∙ sym (ap length all_done))),
+          s.keys_hold ∙ ap (λ (es : List Entry). overwrite keys-before 0 (entry_keys es)) (sym all_done),
+          s.tags_hold ∙ ap (λ (es : List Entry). overwrite tags-before 0 (entry_tags es)) (sym all_done),
+        )

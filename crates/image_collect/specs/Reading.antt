@@ -1,5 +1,5 @@
 -- What walking the records of an image finds: whether they can be read, and their entries. Assumes nothing.
-use Rattle.std.specs.Prelude.{Bool, true, cond, ◌&&◌, List, ℕ, zero, suc, ◌+◌, ◌*◌, ◌≤◌, leb, length, take, drop}
+use Rattle.std.specs.Prelude.{Bool, true, cond, ◌&&◌, Option, Some, None, List, ℕ, zero, suc, ◌+◌, ◌*◌, ◌≤◌, leb, length, take, drop}
 use Rattle.lists.specs.Lists.{same}
 use Rattle.measure.specs.Tag.{is_stored}
 use Rattle.treap.specs.Image.{count_bytes, length_bytes, correction_bytes, node_mark}
@@ -7,10 +7,6 @@ use Rattle.table.specs.Layout.{most_slots}
 use Rattle.table.specs.Contents.{Entry}
 use Rattle.image.specs.Layout.{header_bytes, block_bytes, node_bytes, blocks_at, held_at, length_at, correction_at}
 use Rattle.image.specs.Image.{header_span, field_at, is_measured, node_span, nodes_span, block_entries}
-use Rattle.image_collect.specs.declared.Checked.{Checked}
-use Rattle.image_collect.specs.declared.Checked.TheVariants as checking
-use Rattle.image_collect.specs.declared.Collected.{Collected}
-use Rattle.image_collect.specs.declared.Collected.TheVariants.{Keys, Broken}
 
 -- The bytes begin with a node record: it lies within them, and its mark is `LN`, or `LM` where it has the length and the stored correction
 -- of a measure within the rules.
@@ -25,8 +21,8 @@ are_nodes zero bytes = true
 are_nodes (suc many) bytes = is_node bytes && are_nodes many (drop (node_span bytes) bytes)
 
 -- What checking so many node records finds: where they end.
-unfoldable pub checked : ℕ → List ℕ → Checked
-checked many bytes = cond (are_nodes many bytes) (checking.End (nodes_span many bytes)) checking.Broken
+unfoldable pub checked : ℕ → List ℕ → Option ℕ
+checked many bytes = cond (are_nodes many bytes) (Some (nodes_span many bytes)) None
 
 -- They begin with the records of so many blocks: each block's record lies within them, and as many node records follow it as it says.
 abbrev pub intact : ℕ → List ℕ → Bool
@@ -50,8 +46,8 @@ readable room bytes =
     leb (header_span bytes) (length bytes) && (intact (blocks_of bytes) (drop (header_span bytes) bytes) && leb (length (entries_of bytes)) room)
 
 -- What collecting the keys and their tags finds.
-unfoldable pub collected : ℕ → List ℕ → Collected
-collected room bytes = cond (readable room bytes) (Keys (length (entries_of bytes))) Broken
+unfoldable pub collected : ℕ → List ℕ → Option ℕ
+collected room bytes = cond (readable room bytes) (Some (length (entries_of bytes))) None
 
 -- There is room for the keys of every image of so many bytes: it has at most so many as its node records have room, and at most 4,096.
 abbrev pub RoomFor : ℕ → ℕ → Type 0

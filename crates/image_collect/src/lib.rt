@@ -17,29 +17,12 @@ use image::{
 };
 use measure::UNMEASURED;
 
-// What checking a block's node records finds: where they end.
-#[derive(Clone, Copy)]
-enum Checked {
-    End(usize),
-    Broken,
-}
-
-// What collecting the keys of an image finds: how many there are.
-#[derive(Clone, Copy)]
-pub enum Collected {
-    Keys(usize),
-    Broken,
-}
-
 // Whether the bytes begin with a mark of this kind.
 fn is_marked(bytes: &[u8], kind: u8) -> bool
     requires { 2 ≤ length bytes.now }
     ensures { result ≡ same (take 2 bytes.now) (76 ∷ kind ∷ []) }
 {
-    if bytes[0] != MARK {
-        return false;
-    }
-    bytes[1] == kind
+    bytes[0] == MARK && bytes[1] == kind
 }
 
 // Whether the header at the start of the bytes has a salt.
@@ -132,7 +115,7 @@ fn check_records(
     keys: &mut [u64],
     tags: &mut [u64],
     from: usize,
-) -> Checked
+) -> Option<usize>
     requires { (from + held ≤ length keys.old) × (length tags.old ≡ length keys.old) }
     ensures value { result ≡ checked held records.now }
     ensures keys_after { are_nodes held records.now ≡ true → keys.new ≡ overwrite keys.old from (entry_keys (node_entries held records.now)) }
@@ -141,19 +124,19 @@ fn check_records(
     let mut at = 0;
     for i in 0..held {
         if !is_node(&records[at..]) {
-            return Checked::Broken;
+            return None;
         }
         keys[from + i] = image_fields::get(records, at + KEY_AT, KEY_BYTES);
         tags[from + i] = tag_shown(&records[at..]);
         at += node_span(&records[at..]);
     }
-    Checked::End(at)
+    Some(at)
 }
 
 // Write at the start of `keys` the keys of an image's node records, in their order, and the tags of their measures beside them in
-// `tags`; how many there are. Broken where a record does not lie within the bytes, has another mark or a measure outside the rules, or
+// `tags`; how many there are. None where a record does not lie within the bytes, has another mark or a measure outside the rules, or
 // `keys` is too short: what the two lists then hold is left open. Internal to this library's crates, though it takes any bytes.
-pub fn collect(image: &[u8], keys: &mut [u64], tags: &mut [u64]) -> Collected
+pub fn collect(image: &[u8], keys: &mut [u64], tags: &mut [u64]) -> Option<usize>
     requires { length tags.old ≡ length keys.old }
     ensures value { result ≡ collected (length keys.old) image.now }
     ensures keys_after { readable (length keys.old) image.now ≡ true → keys.new ≡ overwrite keys.old 0 (entry_keys (entries_of image.now)) }
@@ -162,26 +145,23 @@ pub fn collect(image: &[u8], keys: &mut [u64], tags: &mut [u64]) -> Collected
     let size = image.len();
     let head = header_span(image);
     if size < head {
-        return Collected::Broken;
+        return None;
     }
     let blocks = image_fields::get(image, BLOCKS_AT, COUNT_BYTES);
     let mut at = head;
     let mut n = 0;
     for _ in 0..blocks {
         if size - at < BLOCK_BYTES {
-            return Collected::Broken;
+            return None;
         }
         let held = image_fields::get(image, at + HELD_AT, COUNT_BYTES) as usize;
         let start = at + BLOCK_BYTES;
         if keys.len() - n < held {
-            return Collected::Broken;
+            return None;
         }
-        let found = check_records(&image[start..], held, keys, tags, n);
-        let Checked::End(span) = found else {
-            return Collected::Broken;
-        };
+        let span = check_records(&image[start..], held, keys, tags, n)?;
         at = start + span;
         n += held;
     }
-    Collected::Keys(n)
+    Some(n)
 }

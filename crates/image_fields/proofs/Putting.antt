@@ -1,8 +1,9 @@
 -- A number's bytes written one after the other, the lowest first: the invariant of `put`, its start and its step.
 -- Assumes nothing.
 use mathlib.Core.List.{List, [], ◌∷◌, ◌++◌}
-use mathlib.Core.Path.{◌≡◌, refl, sym, ap, ap₂, ◌∙◌, subst₂}
-use Prim.Native.Nat.{ℕ, zero, suc, ◌+◌, ◌-◌, ◌/◌, ◌%◌, ◌<◌, ◌≤◌}
+use mathlib.Core.Path.{◌≡◌, refl, sym, ap, ap₂, ◌∙◌}
+use Prim.Native.Nat.{ℕ, zero, suc, ◌+◌, ◌/◌, ◌%◌, ◌<◌, ◌≤◌}
+use native.Mathlib.Numerals.{add-one}
 use native.Mathlib.Omega.{arith}
 use lib.ListN.{length, set}
 use Rattle.lists.specs.Lists.{overwrite}
@@ -32,19 +33,16 @@ pub record Put (before : List ℕ) (at number : ℕ) (output : List ℕ) (rest i
   pub holds : output ≡ overwrite before at (little_endian i number)
   pub left : rest ≡ shifted number i
 
-pub put_none : (before : List ℕ) (at number i : ℕ) → i ≡ 0 → Put before at number before number i
-put_none before at number i none =
-    record {
-      holds = sym (ap (λ (n : ℕ). overwrite before at (little_endian n number)) none ∙ overwrite_none before at);
-      left = ap (shifted number) (sym none);
-    }
+pub put_none : (before : List ℕ) (at number : ℕ) → Put before at number before number 0
+put_none before at number = record { holds = sym (overwrite_none before at); left = refl }
 
 module _ (before : List ℕ) (at number : ℕ) (output : List ℕ) (rest i : ℕ) (p : Put before at number output rest i) where
   pub put_size : at + i ≤ length before → length output ≡ length before
   put_size h = ap length p.holds ∙ overwrite-length before at (little_endian i number) (omega (arith, little_endian-length i number))
 
-  put_next : at + i < length before → Put before at number (set output (at + i) (rest % 256)) (rest / 256) (suc i)
+  pub put_next : at + i < length before → Put before at number (set output (at + i) (rest % 256)) (rest / 256) (i + 1)
   put_next h =
+      rw add-one
       record {
         holds =
             ap₂ (λ (xs : List ℕ) (x : ℕ). set xs (at + i) (x % 256)) p.holds p.left
@@ -52,11 +50,3 @@ module _ (before : List ℕ) (at number : ℕ) (output : List ℕ) (rest i : ℕ
             ∙ ap (overwrite before at) (sym (little_endian_more i number));
         left = ap (λ (x : ℕ). x / 256) p.left;
       }
-
--- the next byte, with so many of the field's bytes left
-pub put_more : (before : List ℕ) (at number width : ℕ) (output : List ℕ) (rest left : ℕ) → Put before at number output rest (width - left) → left ≤ width → 0 < left → at + width ≤ length before
-    → Put before at number (set output (at + width - left) (rest % 256)) (rest / 256) (width - (left - 1))
-put_more before at number width output rest left p h k room =
-    let here : at + (width - left) ≡ at + width - left = omega arith in
-    let more : suc (width - left) ≡ width - (left - 1) = omega arith in
-    subst₂ (λ (place i : ℕ). Put before at number (set output place (rest % 256)) (rest / 256) i) here more (put_next before at number output rest (width - left) p (omega arith))

@@ -15,11 +15,9 @@ pub fn put(output: &mut [u8], at: usize, width: usize, number: u64)
     ensures { output.new ≡ overwrite output.old at (little_endian width number) }
 {
     let mut rest = number;
-    let mut left = width;
-    while 0 < left {
-        output[at + width - left] = (rest % BYTE) as u8;
-        rest = rest / BYTE;
-        left -= 1;
+    for i in 0..width {
+        output[at + i] = (rest % BYTE) as u8;
+        rest /= BYTE;
     }
 }
 
@@ -29,10 +27,8 @@ pub fn get(bytes: &[u8], at: usize, width: usize) -> u64
     ensures { result ≡ field_at at width bytes.now }
 {
     let mut number = 0;
-    let mut i = width;
-    while 0 < i {
-        i -= 1;
-        number = number * BYTE + bytes[at + i] as u64;
+    for byte in bytes[at..at + width].iter().rev() {
+        number = number * BYTE + *byte as u64;
     }
     number
 }

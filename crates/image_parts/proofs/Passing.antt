@@ -8,7 +8,7 @@ use lib.Seq.{slice}
 use Rattle.lists.specs.Lists.{overwrite}
 use Rattle.lists.proofs.Overwrite.{overwrite_none, overwrite-length}
 use Rattle.lists.proofs.Parts.{overwrite_next}
-use Rattle.table_encode.specs.Encode.{Columns}
+use Rattle.treap_columns.specs.declared.Columns.{Columns}
 use Rattle.image_blocks.specs.Runs.{RunEnds}
 use Rattle.image_parts.specs.Parts.{block_at, blocks_at}
 

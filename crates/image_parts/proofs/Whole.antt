@@ -12,7 +12,8 @@ use Rattle.measure.specs.Tag.{length_in}
 use Rattle.treap.specs.Image.{header_record}
 use Rattle.lists.proofs.FlatMap.{length-flat_map_headed}
 use Rattle.image.specs.Layout.{head_bytes, block_bytes, node_bytes, measure_bytes}
-use Rattle.table_encode.specs.Encode.{Columns, key_at}
+use Rattle.treap_columns.specs.declared.Columns.{Columns}
+use Rattle.table_encode.specs.Encode.{key_at}
 use Rattle.image.specs.Image.{salted}
 use Rattle.image.proofs.PartLengths.{nodes_length}
 use Rattle.image.proofs.Records.{header_length}
@@ -52,7 +53,7 @@ module _ (alike : ℕ → ℕ → Bool) where
 
 module _ (order salt : ℕ) (keys tags : List ℕ) (root : ℕ) (c : Columns) (weights sorted : List ℕ) where
   abbrev node : ℕ → List ℕ
-  node = node_at keys tags c.left c.right c.rank c.count
+  node = node_at keys tags c
 
   -- ---- lengths
   blocks_length : length (blocks_at keys tags root c weights sorted)
@@ -63,7 +64,7 @@ module _ (order salt : ℕ) (keys tags : List ℕ) (root : ℕ) (c : Columns) (w
         arith,
         length-flat_map_headed node block_bytes (block_at keys tags root c) (λ r. r) (block_at_length keys tags root c) (runs (same_weight weights) sorted),
         ap (λ (xs : List ℕ). length (flat_map node xs)) (runs_whole (same_weight weights) sorted),
-        nodes_length node (λ i. length_in (get_or tags i 0)) (node_at_length keys tags c.left c.right c.rank c.count) sorted,
+        nodes_length node (λ i. length_in (get_or tags i 0)) (node_at_length keys tags c) sorted,
       )
 
   module _ (head blocks measured : ℕ) (headed-by : head ≡ head_bytes salt) (counted : blocks ≡ length (runs (same_weight weights) sorted)) (found : measured ≡ length (keep (measured_at tags) sorted)) (all : length sorted ≡ length keys) where

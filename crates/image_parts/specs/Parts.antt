@@ -5,13 +5,14 @@ use Rattle.lists.specs.Lists.{nonzero, runs}
 use Rattle.measure.specs.Tag.{length_in, stored_in}
 use Rattle.treap.specs.Image.{header_record, block_record, node_record}
 use Rattle.image.specs.Image.{salted}
-use Rattle.table_encode.specs.Encode.{Columns, key_at}
+use Rattle.treap_columns.specs.declared.Columns.{Columns}
+use Rattle.table_encode.specs.Encode.{key_at}
 use Rattle.image_blocks.specs.Naming.{level_at, leader_at, same_weight}
 
 -- The record of the key at an index.
-unfoldable pub node_at : List ℕ → List ℕ → List ℕ → List ℕ → List ℕ → List ℕ → ℕ → List ℕ
-node_at keys tags left right rank count i =
-    node_record (get_or keys i 0) (key_at keys (get_or left i 0)) (key_at keys (get_or right i 0)) (get_or rank i 0) (get_or count i 0)
+unfoldable pub node_at : List ℕ → List ℕ → Columns → ℕ → List ℕ
+node_at keys tags c i =
+    node_record (get_or keys i 0) (key_at keys (get_or c.left i 0)) (key_at keys (get_or c.right i 0)) (get_or c.rank i 0) (get_or c.count i 0)
     (length_in (get_or tags i 0)) (stored_in (get_or tags i 0))
 
 -- The key at an index is measured: its tag has a length.
@@ -22,7 +23,7 @@ measured_at tags i = nonzero (length_in (get_or tags i 0))
 unfoldable pub block_at : List ℕ → List ℕ → ℕ → Columns → List ℕ → List ℕ
 block_at keys tags root c run =
     block_record (key_at keys (leader_at root c.leader (get_or run 0 0))) (level_at root c.rank (get_or run 0 0)) (length run)
-    ++ flat_map (node_at keys tags c.left c.right c.rank c.count) run
+    ++ flat_map (node_at keys tags c) run
 
 -- The parts of all blocks, for the indices in the image's order: a block is a run of the same weight.
 unfoldable pub blocks_at : List ℕ → List ℕ → ℕ → Columns → List ℕ → List ℕ → List ℕ
@@ -35,11 +36,11 @@ image_at order salt keys tags root c weights sorted =
     ++ blocks_at keys tags root c weights sorted
 
 -- As many tags as keys, and columns with an entry for each key, whose links are positions of keys or zero.
-pub record Listed (keys tags left right rank count : List ℕ) : Type 0 where
+pub record Listed (keys tags : List ℕ) (c : Columns) : Type 0 where
   pub tags_many : length tags ≡ length keys
-  pub left_long : length keys ≤ length left
-  pub right_long : length keys ≤ length right
-  pub rank_long : length keys ≤ length rank
-  pub count_long : length keys ≤ length count
-  pub left_within : (i : ℕ) → i < length keys → get_or left i 0 ≤ length keys
-  pub right_within : (i : ℕ) → i < length keys → get_or right i 0 ≤ length keys
+  pub left_long : length keys ≤ length c.left
+  pub right_long : length keys ≤ length c.right
+  pub rank_long : length keys ≤ length c.rank
+  pub count_long : length keys ≤ length c.count
+  pub left_within : (i : ℕ) → i < length keys → get_or c.left i 0 ≤ length keys
+  pub right_within : (i : ℕ) → i < length keys → get_or c.right i 0 ≤ length keys

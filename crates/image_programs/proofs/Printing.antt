@@ -1,4 +1,5 @@
 -- What the programs print, test by test, and what they have read where nothing is refused. Assumes nothing.
+use Rattle.std.specs.Prelude.{Result, Ok, Err, OnOk}
 use mathlib.Core.Bool.{true, false, cond, not}
 use mathlib.Core.List.{List, [], ◌∷◌}
 use mathlib.Core.Logic.{◌≢◌}
@@ -8,7 +9,10 @@ use native.Mathlib.Omega.{arith}
 use lib.Dec.{eqb, ltb}
 use lib.ListN.{length, get_or}
 use borrow.Author.Tests.{eq-eqb, ne_eqb, lt-ltb, le-ltb, ltb-false, not-true}
+use mir.Syntax.{w8}
+use mir.Val.{Fits}
 use Rattle.lists.specs.Lists.{All, overwrite}
+use Rattle.lists.proofs.Keep.{all_of_indices}
 use Rattle.lists.proofs.Tests.{by_test, and_left}
 use Rattle.table.specs.Contents.{keys_in}
 use Rattle.table.specs.Layout.{table_words}
@@ -24,9 +28,8 @@ use Rattle.text_pages.specs.Pages.{pages_of}
 use Rattle.text_pages.specs.Claims.{pages_bytes}
 use Rattle.text_pages.proofs.Counting.{pages_reach}
 use Rattle.text_pages.proofs.Claims.{pages_length}
-use Rattle.call_replies.specs.Replies.{Reply, unless_refused, listed_of}
+use Rattle.call_replies.specs.Replies.{Reply, unless_refused, done_of, sized_of}
 use Rattle.call_replies.specs.declared.Refusal.{Refusal}
-use Rattle.call_replies.specs.declared.Listed.TheVariants.{Bytes, Refused}
 use Rattle.call_replies.proofs.Refusals.{numbered}
 use Rattle.call_meaning.specs.Reasons.{wrong_length, not_an_image, not_sound, too_many_keys, output_too_short, shown}
 use Rattle.call_meaning.specs.Calls.{rewritten, read_refusal, read_reply, read_after, text_refusal, text_reply, text_output}
@@ -81,7 +84,7 @@ module _ (bytes : List ℕ) (none : program_refusal bytes ≡ 0) where
       (λ t. ltb-false program_slots (length (keys_in (read_image bytes))) t)
 
   -- and is read
-  pub read_into : (words after : List ℕ) → All IsByte bytes → length words ≡ table_words program_slots → length bytes ≤ program_bytes
+  read_into : (words after : List ℕ) → All IsByte bytes → length words ≡ table_words program_slots → length bytes ≤ program_bytes
       → after ≡ read_after words bytes → ReadInto after bytes
   unfolding read_after rewritten
   read_into words after are-bytes long short e =
@@ -96,6 +99,12 @@ module _ (bytes : List ℕ) (none : program_refusal bytes ≡ 0) where
             ∙ ap (λ (number : ℕ). unless_refused number (fresh (slots_for (length words)) (read_image bytes)) words) (refusal_is words bytes long ∙ none)
             ∙ ap (λ (many : ℕ). fresh many (read_image bytes)) slots;
       }
+
+-- an answer without a refusal says that it is read
+pub read_when : (bytes : List ℕ) → ((i : ℕ) → Fits w8 (get_or bytes i 0)) → (words after : List ℕ) → length words ≡ table_words program_slots → length bytes ≤ program_bytes
+    → after ≡ read_after words bytes → (answer : Result Unit Refusal) → (done_of answer).refusal ≡ program_refusal bytes → OnOk answer (ReadInto after bytes)
+read_when bytes lent words after long short e (Ok done) says = read_into bytes (sym says) words after (all_of_indices IsByte bytes 0 (λ i h. omega (arith, lent i))) long short e
+read_when bytes lent words after long short e (Err r) says = tt
 
 -- ---- the pages of the table that was read
 module _ {words bytes : List ℕ} (read : ReadInto words bytes) where
@@ -129,14 +138,14 @@ module _ (words output : List ℕ) (sound : is_sound words ≡ true) (fits : len
   unfolding text_refusal wrong_length not_sound output_too_short
   printing_accepted = rw (right_long, sound, le-ltb (length output) (length (pages_of (shown words))) fits)
 
-  pub pages_written : (n : ℕ) (after : List ℕ) → listed_of (Bytes n) ≡ pages_reply words output → after ≡ pages_output words output → Written output 0 (pages_of (shown words)) after n
-  unfolding text_reply text_output
-  pages_written n after says e =
-      let number : n ≡ length (pages_of (shown words)) =
-      ap (λ (r : Reply). get_or r.numbers 0 0) says ∙ ap (λ (k : ℕ). get_or (unless_refused k (length (pages_of (shown words)) ∷ []) (0 ∷ [])) 0 0) printing_accepted
-      in
-      record { holds = e ∙ ap (λ (k : ℕ). unless_refused k (overwrite output 0 (pages_of (shown words))) output) printing_accepted; ends = number ∙ omega arith }
-
-  pub never_refused : (r : Refusal) → listed_of (Refused r) ≡ pages_reply words output → ⊥
+  -- so that the call gives how long they are
+  pub pages_given : (answer : Result ℕ Refusal) → sized_of answer ≡ pages_reply words output → answer ≡ Ok (length (pages_of (shown words)))
   unfolding text_reply
-  never_refused r says = let zero = ap (λ (s : Reply). s.refusal) says ∙ printing_accepted in omega (arith, numbered r, zero)
+  pages_given (Ok n) says =
+      ap Ok (ap (λ (r : Reply). get_or r.numbers 0 0) says ∙ ap (λ (k : ℕ). get_or (unless_refused k (length (pages_of (shown words)) ∷ []) (0 ∷ [])) 0 0) printing_accepted)
+  pages_given (Err r) says = let zero = ap (λ (s : Reply). s.refusal) says ∙ printing_accepted in absurd (omega (arith, numbered r, zero))
+
+  pub pages_written : (after : List ℕ) → after ≡ pages_output words output → Written output 0 (pages_of (shown words)) after (length (pages_of (shown words)))
+  unfolding text_output
+  pages_written after e =
+      record { holds = e ∙ ap (λ (k : ℕ). unless_refused k (overwrite output 0 (pages_of (shown words))) output) printing_accepted; ends = omega arith }

@@ -1,19 +1,20 @@
 // What the programs print of the image on their standard input: its listing, or the printed pages of what it holds.
 #![tactic(auto)]
 
-ghost use Rattle.std.specs.Prelude.{true, ◌≡◌, ◌≤◌, length};
+ghost use Rattle.std.specs.Prelude.{true, ◌≡◌, ◌≤◌, length, OnOk};
 ghost use Rattle.table.specs.Layout.{table_words};
 ghost use Rattle.table_judge.specs.Judge.{is_sound};
 ghost use Rattle.image.specs.Image.{read_image, is_image};
 ghost use Rattle.text.specs.Written.{Written};
 ghost use Rattle.text_listing.specs.Listing.{listing_of};
 ghost use Rattle.text_pages.specs.Pages.{pages_of};
+ghost use Rattle.call_replies.specs.Replies.{done_of};
 ghost use Rattle.call_meaning.specs.Reasons.{shown};
 ghost use Rattle.image_programs.specs.Printed.{program_slots, program_bytes, program_room, program_refusal, refused_text, text_as, printed, ReadInto, Prints};
 
-use call_replies::{Listed, ReadBack};
+use call_replies::Refusal;
 
-// What is printed.
+// What is printed. An enum, and no function lent for it, since `specs/Printed.Prints` says what is printed of each kind.
 #[derive(Clone, Copy)]
 pub enum Kind {
     Listing,
@@ -23,17 +24,13 @@ pub enum Kind {
 // The most bytes that a program reads.
 const PROGRAM_BYTES: usize = 50023;
 
-// The refusal of an image that is read into a table of 1,000 slots; 0 for none, and then it is read.
-fn refusal_in(table: &mut [u64], image: &[u8]) -> u64
+// Read an image into a table of 1,000 slots.
+fn read_in(table: &mut [u64], image: &[u8]) -> Result<(), Refusal>
     requires { (length table.old ≡ table_words program_slots) × (length image.now ≤ program_bytes) }
-    ensures value { result ≡ program_refusal image.now }
-    ensures read_into { result ≡ 0 → ReadInto table.new image.now }
+    ensures refusal { (done_of result).refusal ≡ program_refusal image.now }
+    ensures read_into { OnOk result (ReadInto table.new image.now) }
 {
-    let answer = call_image::read(table, image);
-    match answer {
-        ReadBack::Done => 0,
-        ReadBack::Refused(reason) => call_replies::number(reason),
-    }
+    call_image::read(table, image)
 }
 
 // Write what is printed of a refusal.
@@ -61,11 +58,7 @@ fn put_pages(table: &[u64], output: &mut [u8]) -> usize
     requires { (is_sound table.now ≡ true) × (length (pages_of (shown table.now)) ≤ length output.old) }
     ensures { Written output.old 0 (pages_of (shown table.now)) output.new result }
 {
-    let answer = call_pages::pages(table, output);
-    match answer {
-        Listed::Bytes(n) => n,
-        Listed::Refused(_) => 0,
-    }
+    call_pages::pages(table, output).unwrap()
 }
 
 // Write the text of an image that was read into a table.
@@ -87,11 +80,10 @@ fn print_in(kind: Kind, table: &mut [u64], image: &[u8], output: &mut [u8]) -> u
     if PROGRAM_BYTES < image.len() {
         return text::put_bytes(output, 0, b"too long\n");
     }
-    let number = refusal_in(table, image);
-    if number != 0 {
-        return put_refused(output, number);
+    match read_in(table, image) {
+        Ok(()) => put_text(kind, table, image, output),
+        Err(refusal) => put_refused(output, refusal.number()),
     }
-    put_text(kind, table, image, output)
 }
 
 // Write at the start of `output` what is printed of the bytes that were read; how many bytes that is. The output has room for all that is

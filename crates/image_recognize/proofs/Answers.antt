@@ -1,9 +1,11 @@
 -- What the answer of recognizing says. Assumes nothing.
-use mathlib.Core.Bool.{Bool, true, false, cond}
+use mathlib.Core.Bool.{true, false}
 use mathlib.Core.List.{List}
-use mathlib.Core.Path.{◌≡◌, refl, sym, ap, ◌∙◌, subst}
+use mathlib.Core.Path.{◌≡◌, sym, subst}
 use Prim.Native.Nat.{ℕ, ◌≤◌}
 use native.Mathlib.Omega.{arith}
+use Rattle.std.proofs.Common.{Some, None}
+use Rattle.std.proofs.lemmas.Option.{cond_some}
 use lib.ListN.{length}
 use Rattle.treap.specs.Image.{order_bytes}
 use Rattle.table.specs.Layout.{most_slots}
@@ -16,34 +18,21 @@ use Rattle.image.specs.Layout.{order_at}
 use Rattle.image.specs.Image.{header_span, field_at, read_image, is_image}
 use Rattle.image.proofs.Reading.{header_inside}
 use Rattle.image.proofs.Judging.{is_image_exactly}
-use Rattle.image_recognize.specs.declared.Recognized.{Recognized}
-use Rattle.image_recognize.specs.declared.Recognized.TheVariants.{Image, Other}
+use Rattle.image_collect.proofs.Passing.{cond_none}
 use Rattle.image_recognize.specs.Recognize.{recognized}
 
-abbrev says : Recognized → Bool
-says (Image n) = true
-says Other = false
-
-abbrev size_in : Recognized → ℕ
-size_in (Image n) = n
-size_in Other = 0
-
-says_cond : (b : Bool) (n : ℕ) → says (cond b (Image n) Other) ≡ b
-says_cond true n = refl
-says_cond false n = refl
-
 module _ (bytes : List ℕ) where
-  pub told_image : (n : ℕ) → recognized bytes ≡ Image n → is_image bytes ≡ true
+  pub told_image : (n : ℕ) → recognized bytes ≡ Some n → is_image bytes ≡ true
   unfolding recognized
-  told_image n e = sym (says_cond (is_image bytes) (length (keys_in (read_image bytes)))) ∙ ap says e
+  told_image n e = (cond_some (is_image bytes) (length (keys_in (read_image bytes))) n e).0
 
-  pub told_other : recognized bytes ≡ Other → is_image bytes ≡ false
+  pub told_other : recognized bytes ≡ None → is_image bytes ≡ false
   unfolding recognized
-  told_other e = sym (says_cond (is_image bytes) (length (keys_in (read_image bytes)))) ∙ ap says e
+  told_other e = cond_none (is_image bytes) (length (keys_in (read_image bytes))) e
 
-  pub told_number : (n : ℕ) → recognized bytes ≡ Image n → n ≡ length (keys_in (read_image bytes))
+  pub told_number : (n : ℕ) → recognized bytes ≡ Some n → n ≡ length (keys_in (read_image bytes))
   unfolding recognized
-  told_number n e = sym (ap size_in e) ∙ ap (λ b. size_in (cond b (Image (length (keys_in (read_image bytes)))) Other)) (told_image n e)
+  told_number n e = sym (cond_some (is_image bytes) (length (keys_in (read_image bytes))) n e).1
 
   -- the order and the keys of an image can be written, under any salt, with the tags beside them
   pub image_keys : Valid most_slots (read_image bytes) → (order : ℕ) → order ≡ field_at order_at order_bytes bytes → (keys : List ℕ) → keys ≡ keys_in (read_image bytes)

@@ -1,11 +1,13 @@
 -- What the tests of recognizing say of the bytes. Assumes that they are bytes.
-use mathlib.Core.Bool.{Bool, true, false, cond, ◌&&◌}
+use mathlib.Core.Bool.{true, false, ◌&&◌}
 use mathlib.Core.List.Permᴰ
 use mathlib.Core.List.{List, ◌++◌, append-nil}
 use mathlib.Core.Logic.{◌≢◌}
 use mathlib.Core.Path.{◌≡◌, refl, sym, ap, ◌∙◌, subst}
 use Prim.Native.Nat.{ℕ, ◌<◌, ◌≤◌}
 use native.Mathlib.Omega.{arith}
+use Rattle.std.proofs.Common.{Option, Some, None}
+use Rattle.std.proofs.lemmas.Option.{cond_some}
 use lib.Dec.{leb, ltb}
 use lib.ListN.{length, take, drop, length-map}
 use lib.Seq.{drop-length}
@@ -34,9 +36,7 @@ use Rattle.image.proofs.Lengths.{image_longest}
 use Rattle.image_parts.specs.Written.{written_to}
 use Rattle.image_collect.specs.Reading.{readable, entries_of, blocks_of, collected}
 use Rattle.image_collect.proofs.Readable.{readable_right}
-use Rattle.image_collect.specs.declared.Collected.{Collected}
-use Rattle.image_collect.specs.declared.Collected.TheVariants as collecting
-use Rattle.image_recognize.specs.declared.Recognized.TheVariants.{Image, Other}
+use Rattle.image_collect.proofs.Passing.{cond_none}
 use Rattle.image_recognize.specs.Recognize.{recognized}
 
 module _ (bytes : List ℕ) where
@@ -70,7 +70,7 @@ module _ (bytes : List ℕ) where
   shown_tagged right = λ i. record { order = sym order_is i; salt = sym salt_is i; entries = tagged_back (read_image bytes).entries right i }
 
   -- ---- bytes that are no image
-  other : is_image bytes ≡ false → Other ≡ recognized bytes
+  other : is_image bytes ≡ false → None ≡ recognized bytes
   unfolding recognized
   other e = rw e
 
@@ -116,13 +116,22 @@ module _ (bytes : List ℕ) where
       let longest = image_longest (read_image bytes) right.0 in
       omega arith)
 
-  -- what is answered of them
-  pub stop : is_image bytes ≡ false → (keys tags keys-after tags-after : List ℕ)
-      → (Other ≡ recognized bytes)
-      × ((is_image bytes ≡ true → keys-after ≡ overwrite keys 0 (keys_in (read_image bytes)))
-      × (is_image bytes ≡ true → tags-after ≡ overwrite tags 0 (tags_in (read_image bytes))))
-  stop e keys tags keys-after tags-after =
-      (other e, ((λ t. absurd (true_or_false (is_image bytes) t e)), λ t. absurd (true_or_false (is_image bytes) t e)))
+  -- what is answered of them, which says nothing of the lists
+  abbrev pub Answered : (answer : Option ℕ) (keys keys-after tags tags-after : List ℕ) → Type 0
+  Answered answer keys keys-after tags tags-after =
+      record {
+        value : answer ≡ recognized bytes;
+        keys_after : is_image bytes ≡ true → keys-after ≡ overwrite keys 0 (keys_in (read_image bytes));
+        tags_after : is_image bytes ≡ true → tags-after ≡ overwrite tags 0 (tags_in (read_image bytes));
+      }
+
+  pub stop : is_image bytes ≡ false → (keys keys-after tags tags-after : List ℕ) → Answered None keys keys-after tags tags-after
+  stop e keys keys-after tags tags-after =
+      record {
+        value = other e;
+        keys_after = λ t. absurd (true_or_false (is_image bytes) t e);
+        tags_after = λ t. absurd (true_or_false (is_image bytes) t e);
+      }
 
   -- ---- bytes that are one
   module _ (order : lies least_order greatest_order order_shown ≡ true) (rise : rising_keys (keys_in (read_image bytes)) ≡ true) (few : length (keys_in (read_image bytes)) ≤ most_slots) where
@@ -141,35 +150,23 @@ module _ (bytes : List ℕ) where
         (and_both (leb (length ks) most_slots) _ (le-leb (length ks) most_slots few)
         (and_both (every right_measure (read_image bytes).entries) _ (every_when right_measure (read_image bytes).entries right) e))))
 
-  pub accepted : is_image bytes ≡ true → (n : ℕ) → n ≡ length (keys_in (read_image bytes)) → Image n ≡ recognized bytes
+  pub accepted : is_image bytes ≡ true → (n : ℕ) → n ≡ length (keys_in (read_image bytes)) → Some n ≡ recognized bytes
   unfolding recognized
-  accepted e n h = rw e (ap Image h)
+  accepted e n h = rw e (ap Some h)
 
 -- ---- what collecting tells
-abbrev says : Collected → Bool
-says (collecting.Keys n) = true
-says collecting.Broken = false
-
-abbrev size_in : Collected → ℕ
-size_in (collecting.Keys n) = n
-size_in collecting.Broken = 0
-
-says_cond : (b : Bool) (n : ℕ) → says (cond b (collecting.Keys n) collecting.Broken) ≡ b
-says_cond true n = refl
-says_cond false n = refl
-
 module _ (room : ℕ) (bytes : List ℕ) where
-  pub told_readable : (n : ℕ) → collected room bytes ≡ collecting.Keys n → readable room bytes ≡ true
+  pub told_readable : (n : ℕ) → collected room bytes ≡ Some n → readable room bytes ≡ true
   unfolding collected
-  told_readable n e = sym (says_cond (readable room bytes) (length (entries_of bytes))) ∙ ap says e
+  told_readable n e = (cond_some (readable room bytes) (length (entries_of bytes)) n e).0
 
-  pub told_broken : collected room bytes ≡ collecting.Broken → readable room bytes ≡ false
+  pub told_broken : collected room bytes ≡ None → readable room bytes ≡ false
   unfolding collected
-  told_broken e = sym (says_cond (readable room bytes) (length (entries_of bytes))) ∙ ap says e
+  told_broken e = cond_none (readable room bytes) (length (entries_of bytes)) e
 
-  pub told_number : (n : ℕ) → collected room bytes ≡ collecting.Keys n → n ≡ length (entries_of bytes)
+  pub told_number : (n : ℕ) → collected room bytes ≡ Some n → n ≡ length (entries_of bytes)
   unfolding collected
-  told_number n e = sym (ap size_in e) ∙ ap (λ b. size_in (cond b (collecting.Keys (length (entries_of bytes))) collecting.Broken)) (told_readable n e)
+  told_number n e = sym (cond_some (readable room bytes) (length (entries_of bytes)) n e).1
 
 -- ---- the lists
 pub shown_size : (bytes : List ℕ) (n : ℕ) → n ≡ length (entries_of bytes) → length (keys_in (read_image bytes)) ≡ n

@@ -32,7 +32,8 @@ use Rattle.treap_structure.proofs.Blocks.{block_level}
 use Rattle.image.proofs.Weights.{weigh, precedes_by_weight, agree_by_weight}
 use Rattle.image.proofs.ImageOrder.{block_leader, before, same_block, block_leader_is}
 use Rattle.treap_columns.specs.Positions.{positions, weight_at}
-use Rattle.table_encode.specs.Encode.{Columns, key_at}
+use Rattle.treap_columns.specs.declared.Columns.{Columns}
+use Rattle.table_encode.specs.Encode.{key_at}
 use Rattle.table_encode.proofs.Renaming.{key_at_suc, measure_at_suc, key_at_zero, keys_of_positions, keys_rename}
 use Rattle.table_encode.proofs.Fresh.{Right, linked, numbered}
 use Rattle.image_blocks.specs.Naming.{level_at, leader_at, block_weight, block_weights, same_weight, Ranked}
@@ -85,7 +86,7 @@ module _ (order salt : ℕ) (wide : 2 ≤ order) (keys : List ℕ) (rising : Ris
     rank_is = numbered order salt wide keys rising some c right (rank order) c.rank (renamed_ranks (key_at keys) (priority_with salt) q is rename rise order wide) right.ranks
 
     pub node_by_index : (tags : List ℕ) → Beside keys tags → (i : ℕ) → i < n
-        → node_of order (priority_with salt) (measure_in (entries_tagged keys tags)) keys (key_of keys i) ≡ node_at keys tags c.left c.right c.rank c.count i
+        → node_of order (priority_with salt) (measure_in (entries_tagged keys tags)) keys (key_of keys i) ≡ node_at keys tags c i
     unfolding node_of node_at
     node_by_index tags beside i h =
         let tag = get_or tags i 0 in

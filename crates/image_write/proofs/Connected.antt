@@ -23,7 +23,8 @@ use Rattle.image.proofs.Records.{header_first}
 use Rattle.image.proofs.ImageOrder.{same_block}
 use Rattle.image.proofs.BlockRuns.{block_from, blocks_are_runs}
 use Rattle.treap_columns.specs.Positions.{positions, weight_at}
-use Rattle.table_encode.specs.Encode.{Columns, key_at}
+use Rattle.treap_columns.specs.declared.Columns.{Columns}
+use Rattle.table_encode.specs.Encode.{key_at}
 use Rattle.table_encode.proofs.Fresh.{Right}
 use Rattle.table_prepare.specs.Prepared.{Keys}
 use Rattle.image_blocks.specs.Naming.{level_at, leader_at, block_weights, same_weight, Ranked}
@@ -71,7 +72,7 @@ module _ (order salt : ℕ) (wide : 2 ≤ order) (keys : List ℕ) (rising : Ris
     part_by_index (i ∷ run) h =
         let here = h.1.0 in
         let f = node_of order (priority_with salt) m keys in
-        let g = node_at keys tags c.left c.right c.rank c.count in
+        let g = node_at keys tags c in
         let nodes : flat_map f (map (key_of keys) (i ∷ run)) ≡ flat_map g (i ∷ run) =
         flat_map_mapped f (key_of keys) (i ∷ run)
         ∙ flat_map-same (λ j. f (key_of keys j)) g (i ∷ run)
@@ -100,13 +101,11 @@ module _ (order salt : ℕ) (wide : 2 ≤ order) (keys : List ℕ) (rising : Ris
         ∙ header_first salt order (length keys) (length parts) (key_at keys root) (blocks_at keys tags root c weights (by_weight weights)))
 
 -- what is arranged makes the image
-pub arranged_image : (order salt : ℕ) (keys tags weights sorted left right rank count lead : List ℕ) (root : ℕ) → Keys order keys → Beside keys tags
-    → Arranged order salt keys weights sorted left right rank count lead root
-    → image_at order salt keys tags root (record { left = left; right = right; leader = lead; rank = rank; count = count }) (take (length keys) weights) (take (length keys) sorted) ≡ image_of (tagged order salt keys tags)
+pub arranged_image : (order salt : ℕ) (keys tags weighed sorted : List ℕ) (c : Columns) (root : ℕ) → Keys order keys → Beside keys tags → Arranged order salt keys weighed sorted c root
+    → image_at order salt keys tags root c (take (length keys) weighed) (take (length keys) sorted) ≡ image_of (tagged order salt keys tags)
 unfolding image_of
-arranged_image order salt keys tags weights sorted left right rank count lead root good beside made =
-    let c : Columns = record { left = left; right = right; leader = lead; rank = rank; count = count } in
+arranged_image order salt keys tags weighed sorted c root good beside made =
     ap₂ (image_at order salt keys tags root c) made.weighed made.in_order
-    ∙ image_by_index order salt good.wide keys good.rising good.some tags beside c (columns_right order salt keys good left right rank count lead made.filled) root made.root_is
-    (ranked order salt keys good left right rank count lead made.filled root made.root_is)
+    ∙ image_by_index order salt good.wide keys good.rising good.some tags beside c (columns_right order salt keys good c made.filled) root made.root_is
+    (ranked order salt keys good c made.filled root made.root_is)
     ∙ ap (λ (ks : List ℕ). salted salt (image order (priority_with salt) (measure_in (entries_tagged keys tags)) ks)) (sym (tagged_keys keys tags))

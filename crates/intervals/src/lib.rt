@@ -9,24 +9,18 @@ ghost use Rattle.intervals.specs.Intervals.{within};
 pub fn is_within(number: u64, low: u64, high: u64) -> bool
     ensures { result ≡ lies low high number }
 {
-    if number < low {
-        return false;
-    }
-    number <= high
+    (low..=high).contains(&number)
 }
 
-// How many of the first `n` keys lie from `low` to `high`. Internal to this library's crates.
+// How many of the first `n` keys lie from `low` to `high`; the callers hold the list whole. Internal to this library's crates.
 pub fn count_within(keys: &[u64], n: usize, low: u64, high: u64) -> usize
     requires { n ≤ length keys.now }
     ensures { result ≡ length (within low high (take n keys.now)) }
 {
-    let mut many = 0;
-    for i in 0..n {
-        if is_within(keys[i], low, high) {
-            many += 1;
-        }
-    }
-    many
+    keys[..n]
+        .iter()
+        .filter(|key| is_within(**key, low, high))
+        .count()
 }
 
 // Write those at the start of `output`, in their order. Internal to this library's crates.
@@ -35,10 +29,9 @@ pub fn copy_within(keys: &[u64], n: usize, low: u64, high: u64, output: &mut [u6
     ensures { output.new ≡ overwrite output.old 0 (within low high (take n keys.now)) }
 {
     let mut at = 0;
-    for i in 0..n {
-        let key = keys[i];
-        if is_within(key, low, high) {
-            output[at] = key;
+    for key in &keys[..n] {
+        if is_within(*key, low, high) {
+            output[at] = *key;
             at += 1;
         }
     }

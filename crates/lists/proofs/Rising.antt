@@ -65,7 +65,7 @@ rising_once (v ∷ vs) z h =
     rw (e, keep_none (λ x. eqb x z) vs (all_map (λ x. v < x) (λ x. eqb x z ≡ false) (λ x (l : v < x). ne_eqb x z (λ i. omega arith)) vs h.0)) (omega arith))
     (λ e. rw e (rising_once vs z h.1))
 
--- ---- risesB: the test by neighbours
+-- ---- rises_b: the test by neighbours
 pub rises_says : (xs : List ℕ) → rises_b xs ≡ true → Rising xs
 rises_says [] e = tt
 rises_says (x ∷ []) e = (tt, tt)

@@ -12,7 +12,6 @@ use borrow.Author.Tests.{eqb-true}
 use Rattle.lists.specs.Lists.{every, overwrite}
 use Rattle.lists.proofs.Tests.{and_left, and_right}
 use Rattle.lists.proofs.Keep.{every_says, all_at}
-use Rattle.lists.proofs.Overwrite.{overwrite-length}
 use Rattle.lists.proofs.Start.{overwrite_start_next}
 use Rattle.measure.specs.Measure.{Measure, unmeasured, is_measure, measures_beside, are_measured}
 use Rattle.measure.specs.Tag.{tag_of}
@@ -70,9 +69,6 @@ module _ (ls : List ℕ) (zs : List ℤ) (same : length zs ≡ length ls) where
 
     few : (i : ℕ) → i ≤ length ls → length (take i (tags_beside ls zs)) ≡ i
     few i h = length-take-le i (tags_beside ls zs) (omega (arith, length_tags))
-
-    pub tagged_length : (i : ℕ) → i ≤ length ls → length (tagged i) ≡ length before
-    tagged_length i h = overwrite-length before 0 (take i (tags_beside ls zs)) (omega (arith, few i h))
 
     pub tagged_next : (i : ℕ) → i < length ls → set (tagged i) i (tag_of (entry ls zs i)) ≡ tagged (suc i)
     tagged_next i h =

@@ -4,14 +4,16 @@ use mathlib.Core.Path.{◌≡◌, refl, sym, ap, ◌∙◌, subst}
 use Prim.Native.Nat.{ℕ, zero, suc, ◌+◌, ◌-◌, ◌≤◌, ◌<◌}
 use native.Mathlib.Nat.{add-zero, sub-zero}
 use native.Mathlib.Omega.{arith}
-use lib.Dec.{T, ltb, leb, ltb→lt, nltb→le}
+use lib.Dec.{T, eqb, ltb, leb, ltb→lt, nltb→le}
 use lib.IntN.{ℤ, pos, negsuc, nat_abs, sub_ℕ, ◌+ℤ◌, ◌-ℤ◌, +ℤ_comm, -ℤ-+ℤ_cancel}
-use lib.Signed.{mag}
-use mir.Syntax.{Width}
+use lib.Signed.{mag, lt_z, le_z}
+use mir.Syntax.{Width, w32}
 use mir.Val.{SFits, to_z, of_z}
 use mir.ValLaws.{to_z-of_z}
-use borrow.Author.Tests.{leb-true, le-leb, le-ltb}
-use Rattle.lists.proofs.Tests.{true_or_false, and_both, and_left, and_right}
+use borrow.Author.Tests.{eqb-true, leb-true, le-leb, le-ltb}
+use borrow.Author.Differences.{lt-true, lt-false, true_is_le, false_is_le}
+use Rattle.std.specs.Ordering.{is_le, int_cmp}
+use Rattle.lists.proofs.Tests.{by_test as by_either, same_test, true_or_false, and_both, and_left, and_right}
 use Rattle.measure.specs.Measure.{lies_z}
 
 -- ---- differences
@@ -41,11 +43,27 @@ pub mag_below : (a b m : ℕ) → a < m → b < m → mag (sub_ℕ a b) < m
 mag_below a b m h k = by_sign (λ z. mag z < m) a b (λ l. omega arith) (λ l. omega arith)
 
 -- ---- tests
+-- what the library's order says of two integers
+pub is_le_le_z : (a b : ℤ) → is_le (int_cmp a b) ≡ le_z a b
+is_le_le_z a b =
+    by_either (lt_z a b) (λ e. rw e (true_is_le a b (omega (arith, lt-true a b e))))
+    (λ e.
+    by_either (lt_z b a) (λ f. rw (e, f) (false_is_le a b (lt-true b a f)))
+    (λ f. rw (e, f) (true_is_le a b (omega (arith, lt-false b a f)))))
+
 -- only zero lies from zero to zero
 pub lies_zero : (z : ℤ) → lies_z (pos 0) (pos 0) z ≡ true → z ≡ pos 0
 unfolding lies_z
 lies_zero (pos n) h = let few = leb-true n 0 (and_right (leb 0 n) (leb n 0) h) in ap pos (omega arith)
 lies_zero (negsuc n) h = absurd (true_or_false false h refl)
+
+-- so the test for zero is that it lies there
+pub equals_zero : (z : ℤ) → SFits w32 z → eqb (of_z w32 z) 0 ≡ lies_z (pos 0) (pos 0) z
+unfolding lies_z
+equals_zero z fits =
+    same_test (eqb (of_z w32 z) 0) (lies_z (pos 0) (pos 0) z)
+    (λ e. let none : z ≡ pos 0 = sym (to_z-of_z w32 z fits) ∙ ap (to_z w32) (eqb-true (of_z w32 z) 0 e) in ap (lies_z (pos 0) (pos 0)) none)
+    (λ h. ap (λ (y : ℤ). eqb (of_z w32 y) 0) (lies_zero z h))
 
 -- An integer without a sign, within bounds.
 pub record Unsigned (low high : ℕ) (z : ℤ) : Type 0 where

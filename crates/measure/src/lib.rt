@@ -25,24 +25,15 @@ const STORED_VALUES: u64 = 65536;
 // The tag of what is not measured.
 pub const UNMEASURED: u64 = 0;
 
-// Whether a signed number lies from `low` to `high`, both included.
-fn is_between(number: i32, low: i32, high: i32) -> bool
-    ensures { result ≡ lies_z low high number }
-{
-    low <= number && number <= high
-}
-
 // Whether a length and a correction are a measure within the rules, "not measured" included.
 pub fn is_measure(length: u64, correction: i32) -> bool
     ensures { result ≡ is_measure (record { length = length; correction = correction }) }
 {
     if length == 0 {
-        return is_between(correction, 0, 0);
+        return correction == 0;
     }
-    if !intervals::is_within(length, LEAST_LENGTH, GREATEST_LENGTH) {
-        return false;
-    }
-    is_between(correction, LEAST_CORRECTION, GREATEST_CORRECTION)
+    intervals::is_within(length, LEAST_LENGTH, GREATEST_LENGTH)
+        && (LEAST_CORRECTION..=GREATEST_CORRECTION).contains(&correction)
 }
 
 // Whether a measure within the rules has this length and this stored correction.
@@ -52,10 +43,7 @@ pub fn is_stored(length: u64, stored: u64) -> bool
     if length == 0 {
         return stored == 0;
     }
-    if !intervals::is_within(length, LEAST_LENGTH, GREATEST_LENGTH) {
-        return false;
-    }
-    stored <= GREATEST_STORED
+    intervals::is_within(length, LEAST_LENGTH, GREATEST_LENGTH) && stored <= GREATEST_STORED
 }
 
 // The tag of a length and a stored correction.
@@ -82,8 +70,8 @@ pub fn stored_in(tag: u64) -> u64
 
 // A number and a correction together, which are not below zero.
 pub fn plus(number: u64, correction: i32) -> u64
-    requires greatest_correction_le_number { (greatest_correction ≤ number) × (number ≤ greatest_length) }
-    requires correction_value { lies_z least_correction (pos greatest_correction) correction ≡ true }
+    requires number_bounds { (greatest_correction ≤ number) × (number ≤ greatest_length) }
+    requires correction_bounds { lies_z least_correction (pos greatest_correction) correction ≡ true }
     ensures { pos result ≡ pos number +ℤ correction }
 {
     (number as i32 + correction) as u64
@@ -120,26 +108,26 @@ pub fn correction_from(length: u64, stored: u64) -> i64
 }
 
 // Whether lengths and corrections, one of each for a measure, are all measures within the rules.
+// Corrections by index: of a zip with signed numbers the check finds no proof.
 pub fn are_measures(lengths: &[u64], corrections: &[i32]) -> bool
     requires { length corrections.now ≡ length lengths.now }
     ensures { result ≡ every is_measure (measures_beside lengths.now corrections.now) }
 {
-    let many = lengths.len();
-    for i in 0..many {
-        if !is_measure(lengths[i], corrections[i]) {
+    for (i, length) in lengths.iter().enumerate() {
+        if !is_measure(*length, corrections[i]) {
             return false;
         }
     }
     true
 }
 
-// Write the tags of the measures at the start of `tags`.
+// Write the tags of the measures at the start of `tags`. By index, as above.
 pub fn put_tags(lengths: &[u64], corrections: &[i32], tags: &mut [u64])
-    requires corrections_len { (length corrections.now ≡ length lengths.now) × (length lengths.now ≤ length tags.old) }
-    requires corrections_value { every is_measure (measures_beside lengths.now corrections.now) ≡ true }
+    requires sizes_match { (length corrections.now ≡ length lengths.now) × (length lengths.now ≤ length tags.old) }
+    requires all_measures { every is_measure (measures_beside lengths.now corrections.now) ≡ true }
     ensures { tags.new ≡ overwrite tags.old 0 (map tag_of (measures_beside lengths.now corrections.now)) }
 {
-    for i in 0..lengths.len() {
-        tags[i] = tag_of(lengths[i], corrections[i]);
+    for (i, length) in lengths.iter().enumerate() {
+        tags[i] = tag_of(*length, corrections[i]);
     }
 }

@@ -13,6 +13,13 @@ const PER_HUNDREDTH: u64 = 3;
 
 const PER_HALF_POINT: u64 = 1000;
 
+// A size with its rest.
+#[derive(Clone, Copy)]
+pub struct Size {
+    pub half_points: u64,
+    pub rest: i64,
+}
+
 // The corrected length of a measured last: the correction added to the length.
 pub fn corrected(length: u64, correction: i32) -> u64
     requires { IsMeasured (record { length = length; correction = correction }) }

@@ -2,6 +2,7 @@
 -- Assumes nothing.
 use Rattle.std.specs.Prelude.{◌≡◌, List, map, ◌++◌, ℕ, zero, suc, ◌+◌, ◌*◌, ◌/◌, ◌%◌, ◌^◌, ◌<◌, length, drop, get_or}
 use Rattle.std.specs.Int.Bits.{bit_xor}
+use Rattle.std.specs.Coded.{Π_prop, Coded-set, coded_ℕ}
 use Rattle.generator.specs.Generator.{increment, next}
 
 -- "Constants E[0] to E[2047]": how many there are.
@@ -17,6 +18,10 @@ constant_at (suc index) = next (constant_at index)
 -- The table has E[index] at each index of a constant.
 unfoldable pub HoldsConstants : List ℕ → Type 0
 HoldsConstants table = (index : ℕ) → index < constant_count → get_or table index 0 ≡ constant_at index
+
+pub HoldsConstants-prop : (table : List ℕ) → IsProp (HoldsConstants table)
+unfolding HoldsConstants
+HoldsConstants-prop table = Π_prop (λ index. Π_prop (λ below. Coded-set coded_ℕ (get_or table index 0) (constant_at index)))
 
 -- How many bytes a key has.
 abbrev pub key_bytes : ℕ

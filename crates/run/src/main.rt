@@ -150,11 +150,10 @@ fn ask(table: &[u64]) {
 }
 
 // Four steps from a place, each from where the one before left it.
-fn walk(table: &[u64], place: Place) {
-    let first = calls::step(table, place);
-    let second = calls::step(table, first);
-    let third = calls::step(table, second);
-    calls::step(table, third);
+fn walk(table: &[u64], mut place: Place) {
+    for _ in 0..4 {
+        calls::step(table, &mut place);
+    }
 }
 
 // The range key by key: the whole library, a part of it, and from a spent place.
@@ -286,7 +285,8 @@ fn use_table(table: &mut [u64]) {
     calls::look_up(table, 5);
     calls::look_up_batch(table, 5, 6, 9);
     calls::range(table, 5, 9);
-    calls::step(table, Place::ALL);
+    let mut place = Place::ALL;
+    calls::step(table, &mut place);
     calls::write(table, &mut image);
     calls::pages(table, &mut image);
 }

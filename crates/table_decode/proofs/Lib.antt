@@ -2,6 +2,7 @@
 mod Neighbours
 mod Gathered
 pub mod RisingKeys
+pub mod Chunked
 mod Collecting
 mod SortedTags
 pub mod SortedInPlace

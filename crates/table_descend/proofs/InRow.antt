@@ -1,12 +1,12 @@
 -- Lookups of rising keys in a row: the blocks that all of them meet are those that the earlier ones met and those that the last one meets newly,
 -- for which its two predecessors tell. Assumes an order of at least 2, and rising keys none of which is zero.
-use mathlib.Core.Bool.{Bool, true, false, cond, not, ◌&&◌, ◌||◌, and-true, or-false}
+use mathlib.Core.Bool.{Bool, true, false, not, ◌&&◌, ◌||◌, and-true, or-false}
 use mathlib.Core.List.{List, [], ◌∷◌}
 use mathlib.Core.Logic.{⊎_elim}
 use mathlib.Core.Path.{◌≡◌, refl, sym, ap, ◌∙◌}
 use Prim.Native.Nat.{ℕ, ◌+◌, ◌<◌, ◌≤◌}
 use lib.ListN.{length}
-use Rattle.lists.specs.Lists.{keep, some, member, All, Pairwise, Rising}
+use Rattle.lists.specs.Lists.{keep, some, All, Pairwise, Rising}
 use Rattle.lists.proofs.Tests.{by_test, same_test, or_true_cases, or_true_left, or_true_right}
 use Rattle.lists.proofs.Keep.{all_map, all_always, keep_same, keep_none, length-keep_apart}
 use Rattle.lists.proofs.Membership.{all_member, some_says}
@@ -14,8 +14,7 @@ use Rattle.treap.specs.Blocks.{Block, blocks, meets, blocks_met, blocks_met_by_a
 use Rattle.treap_structure.proofs.Blocks.{Formed, blocks_formed}
 use Rattle.treap_structure.proofs.MetBetween.{met_by_two}
 use Rattle.table.specs.Contents.{Contents, keys_in, priority_in}
-use Rattle.table_descend.specs.Lookup.{standing_of, looked_up, earlier, newly_met, looked_up_after}
-use Rattle.table_descend.specs.declared.Looked.TheVariants.{Held, Absent}
+use Rattle.table_descend.specs.Lookup.{standing_if, looked_up, earlier, newly_met, looked_up_after}
 use Rattle.table_descend.proofs.Earlier.{none_earlier, one_earlier, two_earlier}
 
 -- The keys looked up, the last one first, each above those before it.
@@ -43,7 +42,7 @@ module _ (c : Contents) where
   pub first_lookup : (key : ℕ) → looked_up_after c (earlier 0 0) key ≡ looked_up c key
   unfolding looked_up_after looked_up newly_met blocks_met earlier
   first_lookup key =
-      ap (λ (n : ℕ). cond (member key (keys_in c)) (Held (standing_of c key) n) (Absent n))
+      ap (λ (n : ℕ). record { standing = standing_if c key; blocks = n })
       (ap length (keep_same (λ b. met b key && true) (λ b. met b key) all_blocks (all_always (λ b. (met b key && true) ≡ met b key) (λ b. and-true (met b key)) all_blocks)))
 
   -- no lookup meets no block, and one alone meets its own

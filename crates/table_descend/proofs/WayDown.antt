@@ -9,6 +9,7 @@ use native.Mathlib.Omega.{arith}
 use lib.Dec.{eqb, ltb}
 use lib.ListN.{length}
 use borrow.Author.Tests.{eqb-true, eqb-false, eq-eqb, ltb-true, ltb-false, lt-ltb, le-ltb}
+use Rattle.std.specs.Prelude.{Some, None}
 use Rattle.lists.specs.Lists.{nonzero, some, member, All, Rising}
 use Rattle.lists.proofs.Tests.{by_test, same_test, or_true_left, nonzero_when, and_both}
 use Rattle.lists.proofs.Keep.{all_map}
@@ -31,7 +32,6 @@ use Rattle.table.proofs.Orders.{order_wide}
 use Rattle.table_entries.specs.Steps.{next_key}
 use Rattle.table_descend.specs.Lookup.{standing_of, earlier, newly_met, looked_up_after}
 use Rattle.table_descend.specs.Entering.{first_block, other_than, new_block, low_after}
-use Rattle.table_descend.specs.declared.Looked.TheVariants.{Held, Absent}
 use Rattle.table_descend.proofs.Links.{next_is_side}
 use Rattle.table_descend.proofs.Earlier.{none_earlier, last_earlier, met_before}
 
@@ -63,6 +63,14 @@ pub record Searching (c : Contents) (key last before at level low met : ℕ) : T
   pub counted : met + ahead c last before level (path key (rest c at)) ≡ newly_met c (earlier last before) key
   -- no more blocks than keys
   pub few : met + size (rest c at) ≤ suc (length (keys_in c))
+
+-- A key with the level of its block is of that level.
+pub on_its_level : (c : Contents) (next below : ℕ) → next ≢ 0 → below ≡ block_level c.order (priority_in c) (keys_in c) next
+    → of_level c.order (priority_in c) (keys_in c) below next ≡ true
+unfolding of_level
+on_its_level c next below some its =
+    let level = block_level c.order (priority_in c) (keys_in c) next in
+    and_both (nonzero next) (eqb level below) (nonzero_when next (omega arith)) (eq-eqb level below (sym its))
 
 module _ (many : ℕ) (c : Contents) (valid : Valid many c) where
   abbrev α : ℕ
@@ -101,7 +109,7 @@ module _ (many : ℕ) (c : Contents) (valid : Valid many c) where
       go [] h q = refl
       go (x ∷ xs) h q = absurd (omega (arith, q, all_member (λ k. 1 ≤ k) (x ∷ xs) (top p (x ∷ xs)) h (top_member p x xs)))
 
-  pub none_held : (key last before : ℕ) → top p ks ≡ 0 → Absent 0 ≡ looked_up_after c (earlier last before) key
+  pub none_held : (key last before : ℕ) → top p ks ≡ 0 → record { standing = None; blocks = 0 } ≡ looked_up_after c (earlier last before) key
   unfolding looked_up_after newly_met blocks
   none_held key last before e = rw (no_root e) refl
 
@@ -162,7 +170,7 @@ module _ (many : ℕ) (c : Contents) (valid : Valid many c) where
             ∙ sym (new_blocks_change α p wide ks rising (unmet c last before) key (root_key t) xs begins)
 
     -- ---- a key compared
-    module _ (at level low met : ℕ) (now : Searching c key last before at level low met) where
+    module _ {at level low met : ℕ} (now : Searching c key last before at level low met) where
       abbrev here : member at ks ≡ true
       here = now.held_here
 
@@ -185,7 +193,7 @@ module _ (many : ℕ) (c : Contents) (valid : Valid many c) where
           ∙ ap (λ (ys : List ℕ). met + ahead c last before level ys) (sym e)
           ∙ now.counted
 
-      pub found : at ≡ key → Held (standing_of c at) met ≡ looked_up_after c (earlier last before) key
+      pub found : at ≡ key → record { standing = Some (standing_of c at); blocks = met } ≡ looked_up_after c (earlier last before) key
       unfolding looked_up_after
       found e =
           let all : met ≡ newly_met c (earlier last before) key = omega (arith, passed [] (path_here (rest c at) key some_left (sym e ∙ sym root_is))) in
@@ -205,7 +213,7 @@ module _ (many : ℕ) (c : Contents) (valid : Valid many c) where
         link_is q = next_is_side c at q root_is
 
         -- no key left
-        pub ends : next_key c at key ≡ 0 → Absent met ≡ looked_up_after c (earlier last before) key
+        pub ends : next_key c at key ≡ 0 → record { standing = None; blocks = met } ≡ looked_up_after c (earlier last before) key
         unfolding looked_up_after
         ends e =
             let none : side key (rest c at) ≡ leaf =
@@ -217,15 +225,15 @@ module _ (many : ℕ) (c : Contents) (valid : Valid many c) where
             rw (sym held_on ∙ ap (λ (z : Tree). member key (keys z)) none, all)
 
         -- ---- the key that is compared next
-        module _ (next : ℕ) (link : next ≡ next_key c at key) (more-to : next ≢ 0) where
+        module _ (next : ℕ) (link : next ≡ next_key c at key) (linked : next ≢ 0) where
           is_child : next ≡ child p ks at key
           is_child = link ∙ link_is key
 
           some_child : child p ks at key ≢ 0
-          some_child e = more-to (is_child ∙ e)
+          some_child e = linked (is_child ∙ e)
 
           pub next_held : member next ks ≡ true
-          next_held = link_held at here key next link more-to
+          next_held = link_held at here key next link linked
 
           beyond : rest c next ≡ side key (rest c at)
           beyond = ap (λ (k : ℕ). subtree k t) is_child ∙ side_is α p wide ks rising positive at here key
@@ -264,10 +272,6 @@ module _ (many : ℕ) (c : Contents) (valid : Valid many c) where
               (lt-ltb q at (omega arith) ∙ sym (lt-ltb key at high)))))
 
           module _ (below : ℕ) (its : below ≡ block_level α p ks next) where
-            pub onto : of_level α p ks below next ≡ true
-            unfolding of_level
-            onto = and_both (nonzero next) (eqb (block_level α p ks next) below) (nonzero_when next (omega arith)) (eq-eqb (block_level α p ks next) below (sym its))
-
             -- it is in a block that counts where the code says so
             decides : new_block c at low (other_than at last before) level below ≡ new (block_level α p ks) (passes c last before) level next
             unfolding new_block
@@ -279,7 +283,7 @@ module _ (many : ℕ) (c : Contents) (valid : Valid many c) where
                 (ap not
                 (ap (λ (x : ℕ). ltb low (other_than at last before) && of_level α p ks below x) (link_is (other_than at last before))
                 ∙ sym
-                (met_before α p wide ks rising positive at here below key last before low (ap (of_level α p ks below) (sym is_child) ∙ onto) first second now.along some_child (its ∙ ap (block_level α p ks) is_child)
+                (met_before α p wide ks rising positive at here below key last before low (ap (of_level α p ks below) (sym is_child) ∙ on_its_level c next below linked its) first second now.along some_child (its ∙ ap (block_level α p ks) is_child)
                 (λ z. eqb-false below level e (z ∙ sym now.level_is)))
                 ∙ ap (λ (x : ℕ). some (λ k. meets α p ks k (block_of α p ks x)) (earlier last before)) (sym is_child))))
 

@@ -3,18 +3,16 @@
 
 ghost use Rattle.std.specs.Prelude.{true, ◌≡◌, pred, ◌<◌, ◌≤◌, length};
 ghost use Rattle.lists.specs.Lists.{member};
-ghost use Rattle.priority.specs.Priority.{HoldsConstants};
-ghost use Rattle.treap_structure.proofs.Entrances.{of_level};
 ghost use Rattle.table.specs.Layout.{most_slots, table_words};
 ghost use Rattle.table.specs.Table.{contents_of};
 ghost use Rattle.table.specs.Sound.{sound_with};
 ghost use Rattle.table_descend.specs.Lookup.{standing_of, looked_up, earlier, looked_up_after};
+ghost use Rattle.table_descend.specs.Places.{Placed};
 ghost use Rattle.table_descend.specs.Entering.{first_block, other_than, low_after, new_block};
-ghost use Rattle.table_find.specs.Find.{OnlyAt};
-ghost use Rattle.table.specs.Contents.{keys_in, priority_in};
+ghost use Rattle.table.specs.Contents.{keys_in};
 ghost use Rattle.table_entries.specs.Steps.{InSlot};
 
-use priority::CONSTANT_COUNT;
+use priority::Constants;
 use table::{CORRECTION_FIELD, COUNT_FIELD, LEADER_FIELD, LENGTH_FIELD, RANK_FIELD, ROOT_WORD};
 
 // What a table says of a key that it holds.
@@ -28,20 +26,32 @@ pub struct Standing {
     pub correction: i64,
 }
 
-// What the way down from the root finds: the key, with its standing, or not; and how many blocks were met, of those that no earlier lookup met.
+// What the way down from the root finds: the standing of the key where it is held, and how many blocks were met, of those that no earlier
+// lookup met.
 #[derive(Clone, Copy)]
-pub enum Looked {
-    Held(Standing, usize),
-    Absent(usize),
+pub struct Looked {
+    pub standing: Option<Standing>,
+    pub blocks: usize,
 }
 
-// The slot of a key that the way down reaches: its priority is worked out, and handed to the search. The constants of the priorities are lent.
-fn slot_reached(table: &[u64], many: usize, key: u64, constants: &[u64; CONSTANT_COUNT]) -> usize
-    requires { (0 < many) × (many ≤ most_slots) × (length table.now ≡ table_words many) × (sound_with many table.now ≡ true) × (member key (keys_in (contents_of many table.now)) ≡ true) × HoldsConstants constants.now }
-    ensures { OnlyAt many table.now key result }
+// A key that the way down comes to, the slot that holds it, and the level of its block.
+#[derive(Clone, Copy)]
+struct Place {
+    key: u64,
+    slot: usize,
+    level: u64,
+}
+
+// The place of a key that the table holds: its priority is worked out, and handed to the search. The constants of the priorities are lent.
+fn place_of(table: &[u64], many: usize, key: u64, constants: &Constants) -> Place
+    requires { (0 < many) × (many ≤ most_slots) × (length table.now ≡ table_words many) × (sound_with many table.now ≡ true) × (member key (keys_in (contents_of many table.now)) ≡ true) }
+    ensures placed { Placed many table.now result }
+    ensures its_key { result.key ≡ key }
 {
     let priority = table_entries::priority_of(table, many, key, constants);
-    table_entries::slot_of(table, many, key, priority)
+    let slot = table_entries::slot_of(table, many, key, priority);
+    let level = table_entries::level_of(table, many, slot, key);
+    Place { key, slot, level }
 }
 
 // The standing of the key in a slot.
@@ -60,7 +70,7 @@ fn standing_of(table: &[u64], many: usize, slot: usize, key: u64) -> Standing
     }
 }
 
-// The block that holds the root, counted for the first lookup alone.
+// The block that holds the root, counted for the first lookup alone: `last` is zero for no lookup, as in the definition `earlier`.
 fn first_block(last: u64) -> usize
     ensures { result ≡ first_block last }
 {
@@ -90,39 +100,33 @@ fn low_after(low: u64, at: u64, key: u64) -> u64
     low
 }
 
-// Whether the way down that goes on from `at`, in `slot`, to `next` enters a block that the search for an earlier key, `other`, did not.
-// The levels are those of the blocks that hold `at` and `next`.
+// Whether the way down that goes on from `at` to `next` enters a block that the search for an earlier key, `other`, did not.
 fn is_new_block(
     table: &[u64],
     many: usize,
-    slot: usize,
-    at: u64,
+    at: Place,
+    next: Place,
     low: u64,
     other: u64,
-    next: u64,
-    level: u64,
-    below: u64,
-    constants: &[u64; CONSTANT_COUNT],
+    constants: &Constants,
 ) -> bool
-    requires many_nonzero { (0 < many) × InSlot many table.now at slot × (member at (keys_in (contents_of many table.now)) ≡ true) × HoldsConstants constants.now }
-    requires next_value { of_level (contents_of many table.now).order (priority_in (contents_of many table.now)) (keys_in (contents_of many table.now)) below next ≡ true }
-    ensures { result ≡ new_block (contents_of many table.now) at low other level below }
+    requires { (0 < many) × Placed many table.now at × Placed many table.now next }
+    ensures { result ≡ new_block (contents_of many table.now) at.key low other at.level next.level }
 {
-    if below == level {
+    if next.level == at.level {
         return false;
     }
     if other <= low {
         return true;
     }
-    let there = table_entries::next_of(table, many, slot, at, other);
-    if there == next {
+    let there = table_entries::next_of(table, many, at.slot, at.key, other);
+    if there == next.key {
         return false;
     }
     if there == 0 {
         return true;
     }
-    let its_slot = slot_reached(table, many, there, constants);
-    table_entries::level_of(table, many, its_slot, there) != below
+    place_of(table, many, there, constants).level != next.level
 }
 
 // The way down the table's treap from its root to `key`, or to where `key` would hang, after lookups of lesser keys, of which `last` and,
@@ -134,46 +138,48 @@ pub fn look_up_after(
     key: u64,
     last: u64,
     before: u64,
-    constants: &[u64; CONSTANT_COUNT],
+    constants: &Constants,
 ) -> Looked
-    requires many_nonzero { (0 < many) × (many ≤ most_slots) × (length table.now ≡ table_words many) × (sound_with many table.now ≡ true) × HoldsConstants constants.now }
-    requires before_bound { (before ≤ pred last) × (last ≤ pred key) }
+    requires judged { (0 < many) × (many ≤ most_slots) × (length table.now ≡ table_words many) × (sound_with many table.now ≡ true) }
+    requires rising { (before ≤ pred last) × (last ≤ pred key) }
     ensures { result ≡ looked_up_after (contents_of many table.now) (earlier last before) key }
 {
     let root = table[ROOT_WORD];
     if root == 0 {
-        return Looked::Absent(0);
+        return Looked {
+            standing: None,
+            blocks: 0,
+        };
     }
-    let mut at = root;
-    let mut slot = slot_reached(table, many, root, constants);
-    let mut level = table_entries::level_of(table, many, slot, root);
+    let mut at = place_of(table, many, root, constants);
     let mut low = 0;
     let mut met = first_block(last);
-    while at != key {
-        let next = table_entries::next_of(table, many, slot, at, key);
-        if next == 0 {
-            return Looked::Absent(met);
+    while at.key != key {
+        let link = table_entries::next_of(table, many, at.slot, at.key, key);
+        if link == 0 {
+            return Looked {
+                standing: None,
+                blocks: met,
+            };
         }
-        let its_slot = slot_reached(table, many, next, constants);
-        let below = table_entries::level_of(table, many, its_slot, next);
-        let other = other_than(at, last, before);
-        if is_new_block(
-            table, many, slot, at, low, other, next, level, below, constants,
-        ) {
+        let next = place_of(table, many, link, constants);
+        let other = other_than(at.key, last, before);
+        if is_new_block(table, many, at, next, low, other, constants) {
             met += 1;
         }
-        low = low_after(low, at, key);
+        low = low_after(low, at.key, key);
         at = next;
-        slot = its_slot;
-        level = below;
     }
-    Looked::Held(standing_of(table, many, slot, at), met)
+    Looked {
+        standing: Some(standing_of(table, many, at.slot, at.key)),
+        blocks: met,
+    }
 }
 
 // The way down the table's treap to `key`. The constants of the priorities are lent.
 // Internal to this library's crates: their tables are judged before.
-pub fn look_up(table: &[u64], many: usize, key: u64, constants: &[u64; CONSTANT_COUNT]) -> Looked
-    requires { (0 < many) × (many ≤ most_slots) × (length table.now ≡ table_words many) × (sound_with many table.now ≡ true) × HoldsConstants constants.now }
+pub fn look_up(table: &[u64], many: usize, key: u64, constants: &Constants) -> Looked
+    requires { (0 < many) × (many ≤ most_slots) × (length table.now ≡ table_words many) × (sound_with many table.now ≡ true) }
     ensures { result ≡ looked_up (contents_of many table.now) key }
 {
     look_up_after(table, many, key, 0, 0, constants)

@@ -12,7 +12,8 @@ use Rattle.lists.proofs.FlatMap.{flat_map-append, length-flat_map_each}
 use Rattle.lists.proofs.Overwrite.{overwrite_none, overwrite-length}
 use Rattle.lists.proofs.Parts.{overwrite_next}
 use Rattle.table.specs.Layout.{header_words, slot_words, slot_start, table_words}
-use Rattle.table_encode.specs.Encode.{Columns, slot_at}
+use Rattle.treap_columns.specs.declared.Columns.{Columns}
+use Rattle.table_encode.specs.Encode.{slot_at}
 
 pub slot_length : (keys tags : List ℕ) (c : Columns) (i : ℕ) → length (slot_at keys tags c i) ≡ slot_words
 unfolding slot_at

@@ -31,7 +31,8 @@ use Rattle.table.specs.Contents.{Contents}
 use Rattle.table.specs.Tags.{tagged, Beside}
 use Rattle.table.specs.Table.{home_in, header, slot_of, fresh}
 use Rattle.table.proofs.Tagged.{tagged_keys}
-use Rattle.table_encode.specs.Encode.{key_at, Columns, slot_at, words_of}
+use Rattle.treap_columns.specs.declared.Columns.{Columns}
+use Rattle.table_encode.specs.Encode.{key_at, slot_at, words_of}
 use Rattle.table_encode.proofs.Renaming.{maps_agree, measure_at_suc, key_at_zero, keys_of_positions, keys_rename, keys_apart, place_home, all_placed}
 
 -- Columns that begin with those of the definitions, over the priorities of the keys under a salt.

@@ -16,7 +16,8 @@ use Rattle.treap_columns.specs.Columns.{left_column, right_column, rank_column, 
 use Rattle.treap_columns.proofs.Filled.{column_at}
 use Rattle.table.specs.Tags.{tagged, Beside}
 use Rattle.table.specs.Table.{fresh}
-use Rattle.table_encode.specs.Encode.{key_at, Columns, Linked, words_of}
+use Rattle.treap_columns.specs.declared.Columns.{Columns}
+use Rattle.table_encode.specs.Encode.{key_at, Linked, words_of}
 use Rattle.table_encode.proofs.Fresh
 use Rattle.table_encode.proofs.Fresh.{Right, numbered, slots_within, words_are_fresh}
 use Rattle.table_encode.proofs.Renaming.{key_at_suc, keys_rename}
@@ -24,10 +25,7 @@ use Rattle.table_encode.proofs.Standings.{StandingsOf}
 use Rattle.table_prepare.specs.Prepared.{Prepared}
 use Rattle.table_prepare.proofs.Preparing.{left_low_lem, right_low_lem, leader_low, root_low}
 
-module _ (order salt : ℕ) (wide : 2 ≤ order) (ks left right rank count lead slots : List ℕ) (root : ℕ) (made : Prepared order salt ks left right rank count lead slots root) where
-  abbrev columns : Columns
-  columns = record { left = left; right = right; leader = lead; rank = rank; count = count }
-
+module _ (order salt : ℕ) (wide : 2 ≤ order) (ks : List ℕ) (columns : Columns) (slots : List ℕ) (root : ℕ) (made : Prepared order salt ks columns slots root) where
   as_many : length (map (priority_with salt) ks) ≡ length ks
   as_many = length-map ks (priority_with salt)
 
@@ -38,11 +36,11 @@ module _ (order salt : ℕ) (wide : 2 ≤ order) (ks left right rank count lead 
   pub right_columns : Right order salt ks columns
   right_columns =
       record {
-        lefts = over left (left_column (map (priority_with salt) ks)) made.filled.lefts;
-        rights = over right (right_column (map (priority_with salt) ks)) made.filled.rights;
-        leaders = over lead (leader_column order (map (priority_with salt) ks)) made.filled.leaders;
-        ranks = over rank (rank_column order (map (priority_with salt) ks)) made.filled.ranks;
-        counts = over count (count_column order (map (priority_with salt) ks)) made.filled.counts;
+        lefts = over columns.left (left_column (map (priority_with salt) ks)) made.filled.lefts;
+        rights = over columns.right (right_column (map (priority_with salt) ks)) made.filled.rights;
+        leaders = over columns.leader (leader_column order (map (priority_with salt) ks)) made.filled.leaders;
+        ranks = over columns.rank (rank_column order (map (priority_with salt) ks)) made.filled.ranks;
+        counts = over columns.count (count_column order (map (priority_with salt) ks)) made.filled.counts;
       }
 
   low : (column : List ℕ) (g : ℕ → ℕ → ℕ) → take (length ks) column ≡ map (g (length ks)) (positions (length ks))
@@ -55,14 +53,14 @@ module _ (order salt : ℕ) (wide : 2 ≤ order) (ks left right rank count lead 
   linked =
       let ws = map (priority_with salt) ks in
       record {
-        left_long = made.left_room_lem;
-        right_long = made.right_room_lem;
+        left_long = made.left_room;
+        right_long = made.right_room;
         leader_long = made.leader_room;
         rank_long = made.rank_room;
         count_long = made.count_room;
-        left_within = low left (λ m. left_link (weight_at ws) (positions m)) right_columns.lefts (left_low_lem ws);
-        right_within = low right (λ m. right_link (weight_at ws) (positions m)) right_columns.rights (right_low_lem ws);
-        leader_within = low lead (λ m. leader order (weight_at ws) (positions m)) right_columns.leaders (leader_low ws order wide);
+        left_within = low columns.left (λ m. left_link (weight_at ws) (positions m)) right_columns.lefts (left_low_lem ws);
+        right_within = low columns.right (λ m. right_link (weight_at ws) (positions m)) right_columns.rights (right_low_lem ws);
+        leader_within = low columns.leader (λ m. leader order (weight_at ws) (positions m)) right_columns.leaders (leader_low ws order wide);
       }
 
   pub root_within : root ≤ length ks
@@ -78,7 +76,7 @@ module _ (order salt : ℕ) (wide : 2 ≤ order) (ks left right rank count lead 
       ∙ words_are_fresh order salt wide ks rising some columns right_columns tags beside (length slots)
 
   -- the numbers of each key, by its index
-  pub standings : Rising ks → All (λ k. 1 ≤ k) ks → StandingsOf order salt ks rank count lead
+  pub standings : Rising ks → All (λ k. 1 ≤ k) ks → StandingsOf order salt ks columns
   standings rising some =
       let q = weight_at (map (priority_with salt) ks) in
       let rename = keys_rename (priority_with salt) ks rising in
@@ -88,13 +86,13 @@ module _ (order salt : ℕ) (wide : 2 ≤ order) (ks left right rank count lead 
         count_long = made.count_room;
         leader_long = made.leader_room;
         rank_is = λ i h.
-            sym (numbered order salt wide ks rising some columns right_columns (Levels.rank order) rank (renamed_ranks (key_at ks) (priority_with salt) q (positions (length ks)) rename rise order wide) right_columns.ranks i h)
+            sym (numbered order salt wide ks rising some columns right_columns (Levels.rank order) columns.rank (renamed_ranks (key_at ks) (priority_with salt) q (positions (length ks)) rename rise order wide) right_columns.ranks i h)
             ∙ ap (Levels.rank order (priority_with salt) ks) (key_at_suc ks i);
         count_is = λ i h.
-            sym (numbered order salt wide ks rising some columns right_columns (Levels.count order) count (renamed_counts (key_at ks) (priority_with salt) q (positions (length ks)) rename rise order wide) right_columns.counts i h)
+            sym (numbered order salt wide ks rising some columns right_columns (Levels.count order) columns.count (renamed_counts (key_at ks) (priority_with salt) q (positions (length ks)) rename rise order wide) right_columns.counts i h)
             ∙ ap (Levels.count order (priority_with salt) ks) (key_at_suc ks i);
         leader_within = linked.leader_within;
         leader_is = λ i h.
-            sym (Fresh.linked order salt wide ks rising some columns right_columns (leader order) lead (renamed_leader (key_at ks) (priority_with salt) q (positions (length ks)) rename rise order wide) right_columns.leaders i h)
+            sym (Fresh.linked order salt wide ks rising some columns right_columns (leader order) columns.leader (renamed_leader (key_at ks) (priority_with salt) q (positions (length ks)) rename rise order wide) right_columns.leaders i h)
             ∙ ap (leader order (priority_with salt) ks) (key_at_suc ks i);
       }

@@ -1,51 +1,33 @@
 -- Words compared with a slot's, and a table's with those of its columns. Assumes nothing.
-use mathlib.Core.Bool.{true, false, ◌&&◌, and-true}
+use mathlib.Core.Bool.{Bool, true, false, not, ◌&&◌, and-true}
 use mathlib.Core.List.{List, [], ◌∷◌, ◌++◌, flat_map, append_assoc}
 use mathlib.Core.Path.{◌≡◌, sym, ap, ap₂, ◌∙◌}
 use Prim.Native.Nat.{ℕ, suc, ◌+◌, ◌*◌, ◌<◌, ◌≤◌}
-use native.Mathlib.Nat.{add-zero}
-use native.Mathlib.Numerals.{add-one, add-two, add-three, add-four, add_five, add_six, add_seven}
 use native.Mathlib.Omega.{arith}
 use lib.Dec.{eqb}
 use lib.ListN.{length, get_or, take, drop, length-append}
-use lib.Seq.{drop-cons, split_at, take_at, drop_at, take-add, take_all, length-take-le}
+use lib.Seq.{split_at, take_at, drop_at, take-add, take_all, length-take-le}
 use Rattle.lists.specs.Lists.{same}
 use Rattle.lists.proofs.Tests.{true_or_false}
 use Rattle.lists.proofs.Membership.{same_says, same_when, same_differs}
 use Rattle.lists.proofs.FlatMap.{flat_map-append}
-use Rattle.table.specs.Layout.{header_words, slot_words, key_field, left_field, right_field, leader_field, rank_field, count_field, length_field, correction_field, slot_start, table_words}
-use Rattle.table_encode.specs.Encode.{key_at, Columns, slot_at, words_of}
+use Rattle.table.specs.Layout.{header_words, slot_words, slot_start, table_words}
+use Rattle.treap_columns.specs.declared.Columns.{Columns}
+use Rattle.table_encode.specs.Encode.{key_at, slot_at, words_in, words_of}
+use Rattle.table_encode.specs.declared.Slot.{Slot}
 use Rattle.table_encode.proofs.Emitting.{slot_length, slots_length}
 
--- the words of a slot, one by one
-slot_words_lem : (words : List ℕ) (at : ℕ) → at + slot_words ≤ length words
-    → take slot_words (drop at words)
-    ≡ get_or words (at + key_field) 0 ∷ get_or words (at + left_field) 0 ∷ get_or words (at + right_field) 0 ∷ get_or words (at + leader_field) 0 ∷ get_or words (at + rank_field) 0 ∷ get_or words (at + count_field) 0 ∷ get_or words (at + length_field) 0 ∷ get_or words (at + correction_field) 0 ∷ []
-slot_words_lem words at h =
-    rw (add-zero, add-one, add-two, add-three, add-four, add_five, add_six, add_seven)
-    (ap (take 8)
-    (drop-cons words at 0 (omega arith)
-    ∙ ap (λ (xs : List ℕ). get_or words at 0 ∷ xs)
-    (drop-cons words (suc at) 0 (omega arith)
-    ∙ ap (λ (xs : List ℕ). get_or words (suc at) 0 ∷ xs)
-    (drop-cons words (suc (suc at)) 0 (omega arith)
-    ∙ ap (λ (xs : List ℕ). get_or words (suc (suc at)) 0 ∷ xs)
-    (drop-cons words (suc (suc (suc at))) 0 (omega arith)
-    ∙ ap (λ (xs : List ℕ). get_or words (suc (suc (suc at))) 0 ∷ xs)
-    (drop-cons words (suc (suc (suc (suc at)))) 0 (omega arith)
-    ∙ ap (λ (xs : List ℕ). get_or words (suc (suc (suc (suc at)))) 0 ∷ xs)
-    (drop-cons words (suc (suc (suc (suc (suc at))))) 0 (omega arith)
-    ∙ ap (λ (xs : List ℕ). get_or words (suc (suc (suc (suc (suc at))))) 0 ∷ xs)
-    (drop-cons words (suc (suc (suc (suc (suc (suc at)))))) 0 (omega arith)
-    ∙ ap (λ (xs : List ℕ). get_or words (suc (suc (suc (suc (suc (suc at)))))) 0 ∷ xs)
-    (drop-cons words (suc (suc (suc (suc (suc (suc (suc at))))))) 0 (omega arith))))))))))
+-- the words of two slots, compared field by field
+pub same_words : (a b : Slot) →
+    same (words_in a) (words_in b)
+    ≡ (eqb a.key b.key && (eqb a.left b.left && (eqb a.right b.right && (eqb a.leader b.leader && (eqb a.rank b.rank && (eqb a.count b.count && (eqb a.length b.length && eqb a.correction b.correction)))))))
+same_words a b =
+    ap (λ t. eqb a.key b.key && (eqb a.left b.left && (eqb a.right b.right && (eqb a.leader b.leader && (eqb a.rank b.rank && (eqb a.count b.count && (eqb a.length b.length && t)))))))
+    (and-true (eqb a.correction b.correction))
 
-pub same_slot : (words : List ℕ) (at a b c d e f g i : ℕ) → at + slot_words ≤ length words
-    → same (take slot_words (drop at words)) (a ∷ b ∷ c ∷ d ∷ e ∷ f ∷ g ∷ i ∷ [])
-    ≡ (eqb (get_or words (at + key_field) 0) a && (eqb (get_or words (at + left_field) 0) b && (eqb (get_or words (at + right_field) 0) c && (eqb (get_or words (at + leader_field) 0) d && (eqb (get_or words (at + rank_field) 0) e && (eqb (get_or words (at + count_field) 0) f && (eqb (get_or words (at + length_field) 0) g && (eqb (get_or words (at + correction_field) 0) i))))))))
-same_slot words at a b c d e f g i h =
-    ap (λ (xs : List ℕ). same xs (a ∷ b ∷ c ∷ d ∷ e ∷ f ∷ g ∷ i ∷ [])) (slot_words_lem words at h)
-    ∙ ap (λ t. eqb (get_or words (at + key_field) 0) a && (eqb (get_or words (at + left_field) 0) b && (eqb (get_or words (at + right_field) 0) c && (eqb (get_or words (at + leader_field) 0) d && (eqb (get_or words (at + rank_field) 0) e && (eqb (get_or words (at + count_field) 0) f && (eqb (get_or words (at + length_field) 0) g && (t)))))))) (and-true (eqb (get_or words (at + correction_field) 0) i))
+pub not_turned : (differ same : Bool) → differ ≡ not same → same ≡ not differ
+not_turned differ true e = sym (ap not e)
+not_turned differ false e = sym (ap not e)
 
 -- ---- a table's words from word to word
 module _ (order salt : ℕ) (keys tags : List ℕ) (root : ℕ) (c : Columns) (slots : List ℕ) where

@@ -10,7 +10,8 @@ use borrow.Author.Tests.{eq-eqb, ne_eqb}
 use Rattle.lists.specs.Lists.{overwrite}
 use Rattle.measure.specs.Tag.{length_in, stored_in}
 use Rattle.table.specs.Layout.{slot_words, key_field, left_field, right_field, leader_field, rank_field, count_field, length_field, correction_field}
-use Rattle.table_encode.specs.Encode.{key_at, Columns, slot_at}
+use Rattle.treap_columns.specs.declared.Columns.{Columns}
+use Rattle.table_encode.specs.Encode.{key_at, slot_at}
 
 pub key_at_none : (keys : List ℕ) (position : ℕ) → position ≡ 0 → 0 ≡ key_at keys position
 unfolding key_at

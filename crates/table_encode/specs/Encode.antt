@@ -4,19 +4,12 @@ use Rattle.std.specs.Prelude.{cond, ℕ, pred, ◌<◌, ◌≤◌, eqb, length, 
 use mathlib.Core.List.{List, [], ◌∷◌, ◌++◌, flat_map}
 use Rattle.measure.specs.Tag.{length_in, stored_in}
 use Rattle.table.specs.Layout.{slot_words}
+use Rattle.treap_columns.specs.declared.Columns.{Columns}
 use Rattle.table_encode.specs.declared.Slot.{Slot}
 
 -- The key at a position; zero, no key, at position 0.
 unfoldable pub key_at : List ℕ → ℕ → ℕ
 key_at keys position = cond (eqb position 0) 0 (get_or keys (pred position) 0)
-
--- The columns of a list of keys, entry by entry for positions 1, 2, ..
-pub record Columns : Type 0 where
-  pub left : List ℕ
-  pub right : List ℕ
-  pub leader : List ℕ
-  pub rank : List ℕ
-  pub count : List ℕ
 
 -- The eight words of the slot that a position is in; zeros at position 0. The last two are those of the tag there.
 unfoldable pub slot_at : List ℕ → List ℕ → Columns → ℕ → List ℕ

@@ -4,15 +4,17 @@
 ghost use Rattle.std.specs.Prelude.{◌≡◌, ◌+◌, ◌≤◌, length, take, drop};
 ghost use Rattle.lists.specs.Lists.{overwrite, same, All};
 ghost use Rattle.table.specs.Layout.{table_words, slot_words};
+ghost use Rattle.treap_columns.specs.Lent.{lists_of};
 ghost use Rattle.table_encode.specs.Encode.{key_at, slot_at, words_in, words_of, Linked};
 
 use table::{
     CORRECTION_FIELD, COUNT_FIELD, HEADER_WORDS, KEY_FIELD, LEADER_FIELD, LEFT_FIELD, LENGTH_FIELD,
     ORDER_WORD, RANK_FIELD, RIGHT_FIELD, ROOT_WORD, SALT_WORD, SIZE_WORD, SLOT_WORDS,
 };
+use treap_columns::LentColumns;
 
 // The words of a slot.
-#[derive(Drop)]
+#[derive(Clone, Copy, Default, PartialEq, Eq)]
 struct Slot {
     key: u64,
     left: u64,
@@ -36,44 +38,26 @@ pub fn key_at(keys: &[u64], position: usize) -> u64
 }
 
 // The words of the slot that a position is in; zeros at position 0.
-fn slot_at(
-    keys: &[u64],
-    tags: &[u64],
-    left: &[u16],
-    right: &[u16],
-    leader: &[u16],
-    rank: &[u16],
-    count: &[u16],
-    position: usize,
-) -> Slot
-    requires linked { Linked keys.now (record { left = left.now; right = right.now; leader = leader.now; rank = rank.now; count = count.now }) }
+fn slot_at(keys: &[u64], tags: &[u64], columns: LentColumns<'_>, position: usize) -> Slot
+    requires linked { Linked keys.now (lists_of columns) }
     requires position_in_bounds { (position ≤ length keys.now) × (length keys.now ≤ length tags.now) }
-    ensures { words_in result ≡ slot_at keys.now tags.now (record { left = left.now; right = right.now; leader = leader.now; rank = rank.now; count = count.now }) position }
+    ensures { words_in result ≡ slot_at keys.now tags.now (lists_of columns.entry) position }
 {
     if position == 0 {
-        return Slot {
-            key: 0,
-            left: 0,
-            right: 0,
-            leader: 0,
-            rank: 0,
-            count: 0,
-            length: 0,
-            correction: 0,
-        };
+        return Slot::default();
     }
     let i = position - 1;
-    let l = key_at(keys, left[i] as usize);
-    let r = key_at(keys, right[i] as usize);
-    let d = key_at(keys, leader[i] as usize);
+    let l = key_at(keys, columns.left[i] as usize);
+    let r = key_at(keys, columns.right[i] as usize);
+    let d = key_at(keys, columns.leader[i] as usize);
     let tag = tags[i];
     Slot {
         key: keys[i],
         left: l,
         right: r,
         leader: d,
-        rank: rank[i] as u64,
-        count: count[i] as u64,
+        rank: columns.rank[i] as u64,
+        count: columns.count[i] as u64,
         length: measure::length_in(tag),
         correction: measure::stored_in(tag),
     }
@@ -100,66 +84,41 @@ pub fn emit(
     keys: &[u64],
     tags: &[u64],
     root: usize,
-    left: &[u16],
-    right: &[u16],
-    leader: &[u16],
-    rank: &[u16],
-    count: &[u16],
+    columns: LentColumns<'_>,
     slots: &[u16],
     table: &mut [u64],
     salt: u64,
 )
-    requires linked { Linked keys.now (record { left = left.now; right = right.now; leader = leader.now; rank = rank.now; count = count.now }) }
+    requires linked { Linked keys.now (lists_of columns) }
     requires root_in_bounds { (root ≤ length keys.now) × All (λ i. i ≤ length keys.now) slots.now × (length keys.now ≤ length tags.now) }
     requires table_len { length table.old ≡ table_words (length slots.now) }
-    ensures { table.new ≡ words_of order salt keys.now tags.now root (record { left = left.now; right = right.now; leader = leader.now; rank = rank.now; count = count.now }) slots.now }
+    ensures { table.new ≡ words_of order salt keys.now tags.now root (lists_of columns.entry) slots.now }
 {
     table[ORDER_WORD] = order;
     table[SIZE_WORD] = keys.len() as u64;
     table[ROOT_WORD] = key_at(keys, root);
     table[SALT_WORD] = salt;
-    for s in 0..slots.len() {
-        let slot = slot_at(
-            keys,
-            tags,
-            left,
-            right,
-            leader,
-            rank,
-            count,
-            slots[s] as usize,
-        );
+    for (s, position) in slots.iter().enumerate() {
+        let slot = slot_at(keys, tags, columns, *position as usize);
         write_slot(table, HEADER_WORDS + SLOT_WORDS * s, slot);
     }
 }
 
-// Whether the words from word `at` on are those of a slot.
-fn slot_is(table: &[u64], at: usize, slot: Slot) -> bool
+// The words of a slot, from word `at` on.
+fn read_slot(table: &[u64], at: usize) -> Slot
     requires { at + slot_words ≤ length table.now }
-    ensures { result ≡ same (take slot_words (drop at table.now)) (words_in slot) }
+    ensures { words_in result ≡ take slot_words (drop at table.now) }
 {
-    if table[at + KEY_FIELD] != slot.key {
-        return false;
+    Slot {
+        key: table[at + KEY_FIELD],
+        left: table[at + LEFT_FIELD],
+        right: table[at + RIGHT_FIELD],
+        leader: table[at + LEADER_FIELD],
+        rank: table[at + RANK_FIELD],
+        count: table[at + COUNT_FIELD],
+        length: table[at + LENGTH_FIELD],
+        correction: table[at + CORRECTION_FIELD],
     }
-    if table[at + LEFT_FIELD] != slot.left {
-        return false;
-    }
-    if table[at + RIGHT_FIELD] != slot.right {
-        return false;
-    }
-    if table[at + LEADER_FIELD] != slot.leader {
-        return false;
-    }
-    if table[at + RANK_FIELD] != slot.rank {
-        return false;
-    }
-    if table[at + COUNT_FIELD] != slot.count {
-        return false;
-    }
-    if table[at + LENGTH_FIELD] != slot.length {
-        return false;
-    }
-    table[at + CORRECTION_FIELD] == slot.correction
 }
 
 // Whether the table has exactly the words that `emit` would write. Internal to this library's crates.
@@ -168,19 +127,15 @@ pub fn matches(
     keys: &[u64],
     tags: &[u64],
     root: usize,
-    left: &[u16],
-    right: &[u16],
-    leader: &[u16],
-    rank: &[u16],
-    count: &[u16],
+    columns: LentColumns<'_>,
     slots: &[u16],
     table: &[u64],
     salt: u64,
 ) -> bool
-    requires linked { Linked keys.now (record { left = left.now; right = right.now; leader = leader.now; rank = rank.now; count = count.now }) }
+    requires linked { Linked keys.now (lists_of columns) }
     requires root_in_bounds { (root ≤ length keys.now) × All (λ i. i ≤ length keys.now) slots.now × (length keys.now ≤ length tags.now) }
     requires table_len { length table.now ≡ table_words (length slots.now) }
-    ensures { result ≡ same table.now (words_of order salt keys.now tags.now root (record { left = left.now; right = right.now; leader = leader.now; rank = rank.now; count = count.now }) slots.now) }
+    ensures { result ≡ same table.now (words_of order salt keys.now tags.now root (lists_of columns.entry) slots.now) }
 {
     if table[ORDER_WORD] != order {
         return false;
@@ -194,18 +149,9 @@ pub fn matches(
     if table[SALT_WORD] != salt {
         return false;
     }
-    for s in 0..slots.len() {
-        let slot = slot_at(
-            keys,
-            tags,
-            left,
-            right,
-            leader,
-            rank,
-            count,
-            slots[s] as usize,
-        );
-        if !slot_is(table, HEADER_WORDS + SLOT_WORDS * s, slot) {
+    for (s, position) in slots.iter().enumerate() {
+        let slot = slot_at(keys, tags, columns, *position as usize);
+        if read_slot(table, HEADER_WORDS + SLOT_WORDS * s) != slot {
             return false;
         }
     }

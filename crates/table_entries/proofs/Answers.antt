@@ -2,12 +2,13 @@
 -- most as many as a table may have, and that its words are 64-bit numbers.
 use mathlib.Core.Bool.{true, false}
 use mathlib.Core.List.{List}
-use mathlib.Core.Path.{◌≡◌, sym, ap, ◌∙◌, subst}
+use mathlib.Core.Path.{◌≡◌, refl, sym, ap, ◌∙◌, subst}
 use Prim.Native.Nat.{ℕ, ◌<◌, ◌≤◌}
 use native.Mathlib.Omega.{arith}
 use lib.Dec.{eqb}
 use lib.ListN.{length}
 use borrow.Author.Tests.{eq-eqb, ne_eqb}
+use Rattle.std.specs.Prelude.{Option, Some, None, is_some}
 use Rattle.lists.specs.Lists.{member}
 use Rattle.lists.proofs.Tests.{by_test}
 use Rattle.lists.proofs.Membership.{all_member}
@@ -18,13 +19,11 @@ use Rattle.table.specs.Sound.{sound_with}
 use Rattle.table.proofs.Soundness.{WordSized, sound_exactly, sound_valid}
 use Rattle.table_find.specs.Find.{searched, OnlyAt}
 use Rattle.table_find.specs.Claims.{TellsItsSlot, TellsNoKey}
-use Rattle.table_find.specs.declared.Found.{Found}
-use Rattle.table_find.specs.declared.Found.TheVariants.{At, Nowhere}
 use Rattle.table_find.proofs.Claims.{search_tells}
 use Rattle.table_entries.specs.Steps.{InSlot}
 
 -- What an answer says of a key: held, its slot; absent, an empty slot or none.
-pub record Says (many : ℕ) (words : List ℕ) (k : ℕ) (answer : Found) : Type 0 where
+pub record Says (many : ℕ) (words : List ℕ) (k : ℕ) (answer : Option ℕ) : Type 0 where
   when_held : member k (keys_in (contents_of many words)) ≡ true → TellsItsSlot many words k answer
   when_absent : member k (keys_in (contents_of many words)) ≡ false → TellsNoKey many words answer
 
@@ -41,7 +40,7 @@ module _ (many : ℕ) (words : List ℕ) (some : 0 < many) (most : many ≤ most
         exactly = sound_exactly many words passed;
       }
 
-  pub search_says : (k priority : ℕ) → priority ≡ priority_in (contents_of many words) k → (answer : Found) → answer ≡ searched many words k priority
+  pub search_says : (k priority : ℕ) → priority ≡ priority_in (contents_of many words) k → (answer : Option ℕ) → answer ≡ searched many words k priority
       → Says many words k answer
   search_says k priority own answer found =
       record {
@@ -62,15 +61,23 @@ module _ (many : ℕ) (words : List ℕ) (some : 0 < many) (most : many ≤ most
         holds = only.holds;
       }
 
-module _ (many : ℕ) (words : List ℕ) (k : ℕ) (answer : Found) (says : Says many words k answer) where
-  pub held_somewhere : member k (keys_in (contents_of many words)) ≡ true → answer ≡ Nowhere → ⊥
+module _ (many : ℕ) (words : List ℕ) (k : ℕ) (answer : Option ℕ) (says : Says many words k answer) where
+  pub held_somewhere : member k (keys_in (contents_of many words)) ≡ true → answer ≡ None → ⊥
   unfolding TellsItsSlot
   held_somewhere m e = subst (TellsItsSlot many words k) e (says.when_held m)
 
-  pub nowhere_decides : answer ≡ Nowhere → false ≡ member k (keys_in (contents_of many words))
+  -- a held key has a slot
+  pub held_found : member k (keys_in (contents_of many words)) ≡ true → is_some answer ≡ true
+  held_found m = of_answer answer (held_somewhere m)
+    where
+      of_answer : (o : Option ℕ) → (o ≡ None → ⊥) → is_some o ≡ true
+      of_answer (Some slot) d = refl
+      of_answer None d = absurd (d refl)
+
+  pub nowhere_decides : answer ≡ None → false ≡ member k (keys_in (contents_of many words))
   nowhere_decides e = by_test (member k (keys_in (contents_of many words))) (λ m. absurd (held_somewhere m e)) (λ m. sym m)
 
-  module _ (slot : ℕ) (e : answer ≡ At slot) where
+  module _ (slot : ℕ) (e : answer ≡ Some slot) where
     pub held_slot : member k (keys_in (contents_of many words)) ≡ true → OnlyAt many words k slot
     unfolding TellsItsSlot
     held_slot m = subst (TellsItsSlot many words k) e (says.when_held m)

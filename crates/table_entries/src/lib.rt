@@ -3,7 +3,6 @@
 
 ghost use Rattle.std.specs.Prelude.{true, ◌≡◌, ◌+◌, ◌<◌, ◌≤◌, length, get_or};
 ghost use Rattle.lists.specs.Lists.{member};
-ghost use Rattle.priority.specs.Priority.{HoldsConstants};
 ghost use Rattle.treap.specs.Levels.{rank};
 ghost use Rattle.treap_structure.proofs.Blocks.{block_level};
 ghost use Rattle.table.specs.Layout.{most_slots, table_words, slot_start};
@@ -13,11 +12,10 @@ ghost use Rattle.table_find.specs.Find.{OnlyAt};
 ghost use Rattle.table.specs.Contents.{keys_in, priority_in};
 ghost use Rattle.table_entries.specs.Steps.{next_key, InSlot};
 
-use priority::CONSTANT_COUNT;
+use priority::Constants;
 use table::{
     HEADER_WORDS, KEY_FIELD, LEFT_FIELD, RANK_FIELD, RIGHT_FIELD, ROOT_WORD, SALT_WORD, SLOT_WORDS,
 };
-use table_find::Found;
 
 // A word of a slot, by its field. Internal to this library's crates.
 pub fn word_of(table: &[u64], slot: usize, field: usize) -> u64
@@ -28,11 +26,11 @@ pub fn word_of(table: &[u64], slot: usize, field: usize) -> u64
 }
 
 // The priority of `key` under the table's own salt. Internal to this library's crates: they lend the constants of the priorities.
-pub fn priority_of(table: &[u64], many: usize, key: u64, constants: &[u64; CONSTANT_COUNT]) -> u64
-    requires { (length table.now ≡ table_words many) × HoldsConstants constants.now }
+pub fn priority_of(table: &[u64], many: usize, key: u64, constants: &Constants) -> u64
+    requires { length table.now ≡ table_words many }
     ensures { result ≡ priority_in (contents_of many table.now) key }
 {
-    priority::priority_from(constants, key, table[SALT_WORD])
+    constants.priority(key, table[SALT_WORD])
 }
 
 // Whether the table holds `key`. Handed the key's own priority.
@@ -41,8 +39,7 @@ pub fn holds(table: &[u64], many: usize, key: u64, priority: u64) -> bool
     requires { (0 < many) × (many ≤ most_slots) × (length table.now ≡ table_words many) × (sound_with many table.now ≡ true) × (1 ≤ key) × (priority ≡ priority_in (contents_of many table.now) key) }
     ensures { result ≡ member key (keys_in (contents_of many table.now)) }
 {
-    let found = table_find::find(table, many, key, priority);
-    let Found::At(slot) = found else {
+    let Some(slot) = table_find::find(table, many, key, priority) else {
         return false;
     };
     word_of(table, slot, KEY_FIELD) == key
@@ -54,11 +51,7 @@ pub fn slot_of(table: &[u64], many: usize, key: u64, priority: u64) -> usize
     requires { (0 < many) × (many ≤ most_slots) × (length table.now ≡ table_words many) × (sound_with many table.now ≡ true) × (member key (keys_in (contents_of many table.now)) ≡ true) × (priority ≡ priority_in (contents_of many table.now) key) }
     ensures { OnlyAt many table.now key result }
 {
-    let found = table_find::find(table, many, key, priority);
-    let Found::At(slot) = found else {
-        return 0;
-    };
-    slot
+    table_find::find(table, many, key, priority).unwrap()
 }
 
 // The rank of a key that the table holds. Handed the key's own priority.
@@ -83,7 +76,8 @@ pub fn level_of(table: &[u64], many: usize, slot: usize, key: u64) -> u64
     rank + 1
 }
 
-// Where the search for `key` goes on from the key `at` in a slot; zero where it ends. Internal to this library's crates.
+// Where the search for `key` goes on from the key `at` in a slot; zero, which document 01 puts into the table's words for no key, where it
+// ends. Internal to this library's crates.
 pub fn next_of(table: &[u64], many: usize, slot: usize, at: u64, key: u64) -> u64
     requires { InSlot many table.now at slot }
     ensures { result ≡ next_key (contents_of many table.now) at key }

@@ -18,8 +18,7 @@ use Rattle.table.specs.Sound.{sound_with}
 use Rattle.table.proofs.Soundness.{shown_fit}
 use Rattle.table.proofs.Tagged.{tags_many}
 use Rattle.table_examine.specs.Examine.{verdict_of}
-use Rattle.table_examine.specs.declared.Verdict.{Verdict}
-use Rattle.table_examine.specs.declared.Verdict.TheVariants.{Sound}
+use Rattle.std.specs.Prelude.{Option, Some}
 use Rattle.table_prepare.specs.Prepared.{Keys}
 use Rattle.table_examine.proofs.Verdicts.{told_true, told_size, can_be_compared}
 
@@ -41,7 +40,7 @@ pub record Examined (many : ℕ) (words lent keys space tags : List ℕ) (n : �
   pub keys_there : Begins (keys_in (contents_of many words)) lent keys n
   pub tags_there : Begins (tags_in (contents_of many words)) space tags n
 
-pub examined : (many : ℕ) (words lent keys space tags : List ℕ) (n : ℕ) (v : Verdict) → v ≡ verdict_of many words → v ≡ Sound n
+pub examined : (many : ℕ) (words lent keys space tags : List ℕ) (n : ℕ) (v : Option ℕ) → v ≡ verdict_of many words → v ≡ Some n
     → (sound_with many words ≡ true → keys ≡ overwrite lent 0 (keys_in (contents_of many words)))
     → (sound_with many words ≡ true → tags ≡ overwrite space 0 (tags_in (contents_of many words))) → many ≤ length lent → many ≤ length space
     → Examined many words lent keys space tags n

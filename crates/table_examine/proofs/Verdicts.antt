@@ -21,21 +21,21 @@ use Rattle.table.proofs.Tagged.{tagged_is}
 use Rattle.table_decode.specs.Decode.{contents_read}
 use Rattle.table_prepare.specs.Prepared.{Keys}
 use Rattle.table_prepare.proofs.Writable.{writable}
-use Rattle.table_examine.specs.declared.Verdict.{Verdict}
-use Rattle.table_examine.specs.declared.Verdict.TheVariants.{Sound, Unsound}
+use Rattle.std.specs.Bool.{then_some}
+use Rattle.std.specs.Prelude.{Option, Some, None}
 use Rattle.table_examine.specs.Examine.{verdict_of}
 use Rattle.table_examine.proofs.Measured.{read_right, sound_read, exact_read}
 use Rattle.table_examine.proofs.KeysRead.{keys_shown}
 
-abbrev says : Verdict → Bool
-says (Sound n) = true
-says Unsound = false
+abbrev says : Option ℕ → Bool
+says (Some n) = true
+says None = false
 
-abbrev size_in : Verdict → ℕ
-size_in (Sound n) = n
-size_in Unsound = 0
+abbrev size_in : Option ℕ → ℕ
+size_in (Some n) = n
+size_in None = 0
 
-says_cond : (b : Bool) (n : ℕ) → says (cond b (Sound n) Unsound) ≡ b
+says_cond : (b : Bool) (n : ℕ) → says (cond b (Some n) None) ≡ b
 says_cond true n = refl
 says_cond false n = refl
 
@@ -67,31 +67,31 @@ module _ (many : ℕ) (words : List ℕ) where
       passes right e (subst (λ (c : Contents). All (λ f. right_measure f ≡ true) c.entries) shown (read_right many words))
       (ap (λ (c : Contents). same words (fresh many c)) (sym shown) ∙ t))
 
-  pub unsound : sound_with many words ≡ false → Unsound ≡ verdict_of many words
+  pub unsound : sound_with many words ≡ false → None ≡ verdict_of many words
   unfolding verdict_of
   unsound e = rw e
 
-  pub sound : (n : ℕ) → sound_with many words ≡ true → n ≡ length (keys_in (contents_of many words)) → Sound n ≡ verdict_of many words
+  pub sound : (n : ℕ) → sound_with many words ≡ true → n ≡ length (keys_in (contents_of many words)) → Some n ≡ verdict_of many words
   unfolding verdict_of
   sound n e h = rw (e, h)
 
   -- the verdict, from what comparing the words tells
-  pub verdict_is : (b : Bool) (n : ℕ) → sound_with many words ≡ b → n ≡ length (keys_in (contents_of many words)) → cond b (Sound n) Unsound ≡ verdict_of many words
-  unfolding verdict_of
-  verdict_is b n e h = rw (e, h)
+  pub verdict_is : (b : Bool) (n : ℕ) → sound_with many words ≡ b → n ≡ length (keys_in (contents_of many words)) → then_some b n ≡ verdict_of many words
+  verdict_is true n e h = sound n e h
+  verdict_is false n e h = unsound e
 
   verdict_says : sound_with many words ≡ says (verdict_of many words)
   unfolding verdict_of
   verdict_says = sym (says_cond (sound_with many words) (length (keys_in (contents_of many words))))
 
   -- what a verdict says
-  pub told_true : (n : ℕ) → verdict_of many words ≡ Sound n → sound_with many words ≡ true
+  pub told_true : (n : ℕ) → verdict_of many words ≡ Some n → sound_with many words ≡ true
   told_true n v = verdict_says ∙ ap says v
 
-  pub told_false : verdict_of many words ≡ Unsound → sound_with many words ≡ false
+  pub told_false : verdict_of many words ≡ None → sound_with many words ≡ false
   told_false v = verdict_says ∙ ap says v
 
-  pub told_size : (n : ℕ) → verdict_of many words ≡ Sound n → n ≡ length (keys_in (contents_of many words))
+  pub told_size : (n : ℕ) → verdict_of many words ≡ Some n → n ≡ length (keys_in (contents_of many words))
   told_size n v = sym (ap size_in (sound (length (keys_in (contents_of many words))) (told_true n v) refl ∙ v))
 
   -- ---- the keys that are read, as the comparison takes them

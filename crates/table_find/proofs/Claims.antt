@@ -6,6 +6,7 @@ use mathlib.Core.Path.{◌≡◌, sym, ap, ◌∙◌, subst}
 use Prim.Native.Nat.{ℕ, ◌<◌}
 use native.Mathlib.Nat.{mod-lt}
 use native.Mathlib.Omega.{arith}
+use Rattle.std.specs.Prelude.{Option, Some, None}
 use Rattle.lists.specs.Lists.{member}
 use Rattle.lists.proofs.Tests.{true_or_false}
 use Rattle.priority.specs.Priority.{home_of}
@@ -14,8 +15,6 @@ use Rattle.table.specs.Layout.{key_in}
 use Rattle.table.specs.Table.{Sound}
 use Rattle.table_find.specs.Find.{stops_at, slot_found, found_at, searched, OnlyAt}
 use Rattle.table_find.specs.Claims.{slot_from, Stops, TellsFirst, TellsItsSlot, TellsNoKey, Search}
-use Rattle.table_find.specs.declared.Found.{Found}
-use Rattle.table_find.specs.declared.Found.TheVariants.{At, Nowhere}
 use Rattle.table_find.proofs.Searching.{stops_on_empty, stops_on_key, stops_says, slot_comes_up, Ends, where_search_ends, found_at_lem, found_nowhere}
 use Rattle.table_find.proofs.Searching.Ends.{ends_at, ends_nowhere}
 use Rattle.table.specs.Contents.{keys_in, priority_in}
@@ -74,13 +73,13 @@ module _ (words : List ℕ) (sound : Sound words) where
         absent_key_nowhere sound.many sound.contents sound.some sound.valid key slot absent
         (ap (λ (ws : List ℕ). key_in ws slot) (sym sound.exactly) ∙ e)
 
-    empty_or_none : (answer : Found) → TellsFirst sound.many words key priority answer → TellsNoKey sound.many words answer
+    empty_or_none : (answer : Option ℕ) → TellsFirst sound.many words key priority answer → TellsNoKey sound.many words answer
     unfolding TellsFirst TellsNoKey
-    empty_or_none (At slot) found = (
+    empty_or_none (Some slot) found = (
       slot_from_within sound.many priority found.steps slot sound.some found.there,
       ⊎_elim (λ e. e) (λ e. e ∙ nowhere slot e) found.stops,
     )
-    empty_or_none Nowhere none = λ slot h e. none slot h (inl e)
+    empty_or_none None none = λ slot h e. none slot h (inl e)
 
     tells_no_key : TellsNoKey sound.many words (searched sound.many words key priority)
     tells_no_key =

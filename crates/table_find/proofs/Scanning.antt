@@ -4,6 +4,7 @@ use mathlib.Core.List.{List, [], ◌∷◌, ◌++◌}
 use mathlib.Core.Path.{◌≡◌, sym, ◌∙◌}
 use Prim.Native.Nat.{ℕ, suc, ◌+◌, ◌-◌, ◌<◌, ◌≤◌}
 use native.Mathlib.Omega.{arith}
+use Rattle.std.specs.Prelude.{Option, Some, None}
 use Rattle.lists.specs.Lists.{first, up_from, All}
 use Rattle.lists.proofs.Tests.{by_test}
 use Rattle.lists.proofs.Keep.{all_map}
@@ -11,13 +12,11 @@ use Rattle.lists.proofs.UpFrom.{up_from_within}
 use Rattle.priority.specs.Priority.{home_of}
 use Rattle.treap.specs.Slots.{probes}
 use Rattle.table_find.specs.Find.{stops_at, slot_found, found_at, searched, scanned}
-use Rattle.table_find.specs.declared.Found.{Found}
-use Rattle.table_find.specs.declared.Found.TheVariants.{At, Nowhere}
 use Rattle.table_find.proofs.Searching.{found_at_lem, found_nowhere}
 
 -- ---- slot by slot
 module _ (words : List ℕ) (key low high : ℕ) where
-  pub scan_finds : low < high → stops_at words key low ≡ true → scanned words low high key ≡ At low
+  pub scan_finds : low < high → stops_at words key low ≡ true → scanned words low high key ≡ Some low
   scan_finds h t =
       let some : high - low ≡ suc (high - (low + 1)) = omega arith in
       rw (some, t) (found_at_lem high low h)
@@ -28,16 +27,16 @@ module _ (words : List ℕ) (key low high : ℕ) where
       let some : high - low ≡ suc (high - suc low) = omega arith in
       rw (next, some, t)
 
-  pub scan_ends : high ≤ low → scanned words low high key ≡ Nowhere
+  pub scan_ends : high ≤ low → scanned words low high key ≡ None
   scan_ends h =
       let none : high - low ≡ 0 = omega arith in
       rw none (found_nowhere high high (omega arith))
 
 -- ---- two scans
 -- This answer, or the other where it found none.
-abbrev pub or_else : Found → Found → Found
-or_else (At slot) other = At slot
-or_else Nowhere other = other
+abbrev pub or_else : Option ℕ → Option ℕ → Option ℕ
+or_else (Some slot) other = Some slot
+or_else None other = other
 
 -- for any test, of slots below `many` and then slots below `home`
 module _ (f : ℕ → Bool) (many home : ℕ) (h : home < many) where

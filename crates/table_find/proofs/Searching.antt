@@ -8,13 +8,13 @@ use native.Mathlib.Nat.{add-zero, mod-eq_of_lt, mod_self, mod-add-mod, add-mod_r
 use native.Mathlib.Omega.{arith}
 use lib.Dec.{eqb, ltb}
 use borrow.Author.Tests.{eq-eqb, ne_eqb, eqb-true, eqb-false, ltb-true, ltb-false, lt-ltb, le-ltb}
+use Rattle.std.specs.Prelude.{Some, None}
 use Rattle.lists.specs.Lists.{first}
 use Rattle.lists.proofs.Tests.{by_test, or_true_cases, or_true_left, or_true_right, or_both_false}
 use Rattle.priority.specs.Priority.{home_of}
 use Rattle.priority.proofs.Bounds.{home_of_below}
 use Rattle.table_slots.proofs.Probing.{after, in_turn, after_within, probes_in_turn}
 use Rattle.table_find.specs.Find.{stops_at, slot_found, found_at}
-use Rattle.table_find.specs.declared.Found.TheVariants.{At, Nowhere}
 
 -- ---- the test of one slot
 -- A slot with this word for its key is empty or holds the key sought.
@@ -106,10 +106,10 @@ module _ (many : ℕ) (words : List ℕ) (key priority : ℕ) (some : 0 < many) 
   where_search_ends = rw search_starts (search_outcome many (stops_at words key) (home_of priority many) many (home_of_below priority some))
 
 -- ---- the answer
-pub found_at_lem : (many slot : ℕ) → slot < many → found_at many slot ≡ At slot
+pub found_at_lem : (many slot : ℕ) → slot < many → found_at many slot ≡ Some slot
 unfolding found_at
 found_at_lem many slot h = rw (lt-ltb slot many h)
 
-pub found_nowhere : (many slot : ℕ) → many ≤ slot → found_at many slot ≡ Nowhere
+pub found_nowhere : (many slot : ℕ) → many ≤ slot → found_at many slot ≡ None
 unfolding found_at
 found_nowhere many slot h = rw (le-ltb slot many h)

@@ -1,13 +1,11 @@
 -- What is claimed of the slot search (document 02, N3), in any words and in a sound table; `proofs/Claims` proves it. Assumes nothing.
-use Rattle.std.specs.Prelude.{true, false, List, ◌⊎◌, ◌≢◌, ◌≡◌, ℕ, ◌+◌, ◌%◌, ◌<◌}
+use Rattle.std.specs.Prelude.{true, false, List, ◌⊎◌, ◌≢◌, ◌≡◌, ℕ, ◌+◌, ◌%◌, ◌<◌, Option, Some, None}
 use Rattle.lists.specs.Lists.{member}
 use Rattle.priority.specs.Priority.{home_of}
 use Rattle.table.specs.Layout.{key_in}
 use Rattle.table.specs.Table.{Sound}
 use Rattle.table_find.specs.Find.{searched, OnlyAt}
-use Rattle.table_find.specs.declared.Found.{Found}
 use Rattle.table.specs.Contents.{keys_in, priority_in}
-use Rattle.table_find.specs.declared.Found.TheVariants.{At, Nowhere}
 
 -- The slot so many steps "from that number's home on, slot 0 following the last".
 unfoldable pub slot_from : ℕ → ℕ → ℕ → ℕ
@@ -27,19 +25,19 @@ pub record FirstFrom (many : ℕ) (words : List ℕ) (key priority slot : ℕ) :
   pub passed : (fewer : ℕ) → fewer < steps → Stops words key (slot_from many priority fewer) → ⊥
 
 -- What an answer tells: "the first slot", "or .. that there is none".
-unfoldable pub TellsFirst : ℕ → List ℕ → ℕ → ℕ → Found → Type 0
-TellsFirst many words key priority (At slot) = FirstFrom many words key priority slot
-TellsFirst many words key priority Nowhere = (slot : ℕ) → slot < many → Stops words key slot → ⊥
+unfoldable pub TellsFirst : ℕ → List ℕ → ℕ → ℕ → Option ℕ → Type 0
+TellsFirst many words key priority (Some slot) = FirstFrom many words key priority slot
+TellsFirst many words key priority None = (slot : ℕ) → slot < many → Stops words key slot → ⊥
 
 -- The answer is "that key's slot", the only one that holds it.
-unfoldable pub TellsItsSlot : ℕ → List ℕ → ℕ → Found → Type 0
-TellsItsSlot many words key (At slot) = OnlyAt many words key slot
-TellsItsSlot many words key Nowhere = ⊥
+unfoldable pub TellsItsSlot : ℕ → List ℕ → ℕ → Option ℕ → Type 0
+TellsItsSlot many words key (Some slot) = OnlyAt many words key slot
+TellsItsSlot many words key None = ⊥
 
 -- The answer is one of the slots, an empty one; or none, and then none is empty.
-unfoldable pub TellsNoKey : ℕ → List ℕ → Found → Type 0
-TellsNoKey many words (At slot) = (slot < many) × (key_in words slot ≡ 0)
-TellsNoKey many words Nowhere = (slot : ℕ) → slot < many → key_in words slot ≢ 0
+unfoldable pub TellsNoKey : ℕ → List ℕ → Option ℕ → Type 0
+TellsNoKey many words (Some slot) = (slot < many) × (key_in words slot ≡ 0)
+TellsNoKey many words None = (slot : ℕ) → slot < many → key_in words slot ≢ 0
 
 pub record Search : Type 0 where
   -- "Handed any number, the search finds the first slot from that number's home on, slot 0 following the last, that is empty or holds the

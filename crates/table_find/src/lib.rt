@@ -7,38 +7,27 @@ ghost use Rattle.table_find.specs.Find.{scanned, searched};
 
 use table::{HEADER_WORDS, KEY_FIELD, SLOT_WORDS};
 
-// Where the search stops.
-#[derive(Clone, Copy)]
-pub enum Found {
-    // At this slot, which is empty or holds the key.
-    At(usize),
-    // At none: every slot holds another key.
-    Nowhere,
-}
-
-// The first slot from `low` up to `high`, `high` left out, that is empty or holds `key`.
-fn scan(table: &[u64], low: usize, high: usize, key: u64) -> Found
+// The first slot from `low` up to `high`, `high` left out, that is empty or holds `key`; none where every slot holds another key.
+fn scan(table: &[u64], low: usize, high: usize, key: u64) -> Option<usize>
     requires { table_words high ≤ length table.now }
     ensures { result ≡ scanned table.now low high key }
 {
+    // By number, as the number of a slot is the answer; `find` over the range would be no plainer.
     for slot in low..high {
         let held = table[HEADER_WORDS + SLOT_WORDS * slot + KEY_FIELD];
         if held == key || held == 0 {
-            return Found::At(slot);
+            return Some(slot);
         }
     }
-    Found::Nowhere
+    None
 }
 
-// The first slot from the home of `priority` on, slot 0 following the last, that is empty or holds `key`.
-// Internal to this library's crates: their tables have at least one slot, and the words of `many` slots.
-pub fn find(table: &[u64], many: usize, key: u64, priority: u64) -> Found
+// The first slot from the home of `priority` on, slot 0 following the last, that is empty or holds `key`; none where every
+// slot holds another key. Internal to this library's crates: their tables have at least one slot, and the words of `many` slots.
+pub fn find(table: &[u64], many: usize, key: u64, priority: u64) -> Option<usize>
     requires { (0 < many) × (table_words many ≤ length table.now) }
     ensures { result ≡ searched many table.now key priority }
 {
     let home = priority::home(priority, many as u64) as usize;
-    match scan(table, home, many, key) {
-        Found::At(slot) => Found::At(slot),
-        Found::Nowhere => scan(table, 0, home, key),
-    }
+    scan(table, home, many, key).or_else(|| scan(table, 0, home, key))
 }

@@ -9,7 +9,8 @@ use native.Mathlib.Omega.{arith}
 use lib.Dec.{eqb}
 use lib.ListN.{length}
 use borrow.Author.Tests.{eq-eqb, ne_eqb}
-use Rattle.lists.proofs.Tests.{true_or_false, and_left, and_right, and_both}
+use Rattle.std.specs.Prelude.{is_some}
+use Rattle.lists.proofs.Tests.{by_test, true_or_false, and_left, and_right, and_both}
 use Rattle.table.specs.Layout.{table_words}
 use Rattle.table.specs.Table.{Sound}
 use Rattle.table.specs.Sound.{sound_with}
@@ -17,6 +18,7 @@ use Rattle.table.proofs.Words.{fresh_length}
 use Rattle.table.proofs.Soundness.{WordSized, sound_says, sound_when}
 use Rattle.table_limits.specs.Lengths.{slots_for}
 use Rattle.table_limits.proofs.Lengths.{slots_for_is, slots_for_some}
+use Rattle.table_examine.specs.Examine.{verdict_of}
 use Rattle.table_judge.specs.Judge.{is_sound}
 
 module _ (words : List ℕ) where
@@ -58,3 +60,8 @@ module _ (words : List ℕ) where
   pub no_slots : slots_for (length words) ≡ 0 → false ≡ is_sound words
   unfolding is_sound
   no_slots e = rw e refl
+
+  -- the verdict on the words is a number of keys where they pass
+  pub verdict_tells : (many : ℕ) → is_some (verdict_of many words) ≡ sound_with many words
+  unfolding verdict_of
+  verdict_tells many = by_test (sound_with many words) (λ e. rw e refl) (λ e. rw e refl)

@@ -1,13 +1,14 @@
 -- The least key of a range, found slot by slot. Assumes nothing.
 use mathlib.Core.Bool.{Bool, true, false, cond, ◌&&◌, ◌||◌, not}
 use mathlib.Core.List.{List, [], ◌∷◌, ◌++◌, map, map-append, append-nil}
-use mathlib.Core.Logic.{◌≢◌}
+use mathlib.Core.Logic.{◌≢◌, ◌⊎◌, ⊎_elim}
 use mathlib.Core.Path.{◌≡◌, refl, sym, ap, ◌∙◌, subst}
-use Prim.Native.Nat.{ℕ, suc, ◌+◌, ◌<◌, ◌≤◌}
+use Prim.Native.Nat.{ℕ, suc, min, ◌+◌, ◌<◌, ◌≤◌}
 use native.Mathlib.Nat.{zero-add}
 use native.Mathlib.Omega.{arith}
 use lib.Dec.{eqb, ltb}
-use borrow.Author.Tests.{eq-eqb, ne_eqb, lt-ltb, le-ltb, eqb-true, eqb-false, ltb-true}
+use borrow.Author.Tests.{eq-eqb, ne_eqb, lt-ltb, le-ltb, eqb-true, eqb-false, ltb-true, ltb-false}
+use Rattle.std.specs.Prelude.{Option, Some, None}
 use Rattle.lists.specs.Lists.{All, Pairwise, cons_if, first, keep, insert_by, sort_by, up_from, lies, nonzero}
 use Rattle.lists.proofs.Tests.{by_test, or_true_left, or_true_right}
 use Rattle.lists.proofs.Keep.{keep_append}
@@ -19,7 +20,7 @@ use Rattle.table.specs.Table.{contents_of}
 use Rattle.table.proofs.Words.{slot_keys, held_keys}
 use Rattle.table.proofs.Soundness.{shown_held, shown_nonzero}
 use Rattle.table.specs.Contents.{keys_in}
-use Rattle.table_least.specs.LeastKey.{least_within, lesser}
+use Rattle.table_least.specs.LeastKey.{least_within, lesser, IsOrZero}
 
 -- ---- a key put in its place among others
 -- what the first that passes becomes
@@ -100,24 +101,39 @@ unfolding least_within held_keys slot_keys
 least_none words low high = ap (first 0 (lies low high)) (sym (shown_held 0 words))
 
 -- ---- the lesser of two, test by test
-module _ (low high least key : ℕ) where
-  pub no_key : key ≡ 0 → least ≡ lesser low high least key
+module _ (low high n key : ℕ) where
+  no_key : key ≡ 0 → n ≡ lesser low high n key
   unfolding lesser
   no_key e = rw (eq-eqb key 0 e) refl
 
-  pub outside : key ≢ 0 → lies low high key ≡ false → least ≡ lesser low high least key
+  outside : lies low high key ≡ false → n ≡ lesser low high n key
   unfolding lesser
-  outside d e = rw (ne_eqb key 0 d, e) refl
+  outside e = by_test (nonzero key) (λ t. rw (t, e) refl) (λ t. rw t refl)
+
+  pub left_out : (least : Option ℕ) → (key ≡ 0) ⊎ (lies low high key ≡ false) → IsOrZero least n → IsOrZero least (lesser low high n key)
+  left_out least out told = subst (IsOrZero least) (⊎_elim no_key outside out) told
 
   module _ (some : key ≢ 0) (within : lies low high key ≡ true) where
-    pub first_one : least ≡ 0 → key ≡ lesser low high least key
+    first_one : n ≡ 0 → key ≡ lesser low high n key
     unfolding lesser
-    first_one e = rw (ne_eqb key 0 some, within, eq-eqb least 0 e) refl
+    first_one e = rw (ne_eqb key 0 some, within, eq-eqb n 0 e) refl
 
-    pub less_one : key < least → key ≡ lesser low high least key
+    less_one : key < n → key ≡ lesser low high n key
     unfolding lesser
-    less_one h = rw (ne_eqb key 0 some, within, or_true_right (eqb least 0) (ltb key least) (lt-ltb key least h)) refl
+    less_one h = rw (ne_eqb key 0 some, within, or_true_right (eqb n 0) (ltb key n) (lt-ltb key n h)) refl
 
-    pub no_less : least ≢ 0 → least ≤ key → least ≡ lesser low high least key
+    no_less : n ≢ 0 → n ≤ key → n ≡ lesser low high n key
     unfolding lesser
-    no_less d h = rw (ne_eqb key 0 some, within, ne_eqb least 0 d, le-ltb key least h) refl
+    no_less d h = rw (ne_eqb key 0 some, within, ne_eqb n 0 d, le-ltb key n h) refl
+
+    pub first_found_key : (least : Option ℕ) → least ≡ None → IsOrZero least n → IsOrZero (Some key) (lesser low high n key)
+    first_found_key least e told =
+        let none : n ≡ 0 = subst (λ (o : Option ℕ). IsOrZero o n) e told in
+        (first_one none, omega arith)
+
+    pub lesser_found : (least : Option ℕ) (other now : ℕ) → least ≡ Some other → now ≡ min other key → IsOrZero least n → IsOrZero (Some now) (lesser low high n key)
+    lesser_found least other now e f told =
+        let (same, some-other) = subst (λ (o : Option ℕ). IsOrZero o n) e told in
+        by_test (ltb key n)
+        (λ t. let h = ltb-true key n t in (omega (arith, same, f, less_one h), omega (arith, same, f)))
+        (λ t. let h = ltb-false key n t in (omega (arith, same, f, no_less (omega (arith, same, some-other)) h), omega (arith, same, f, some-other)))

@@ -1,5 +1,5 @@
 -- How many slots a table has, by its length. Assumes nothing.
-use Rattle.std.specs.Prelude.{ℕ, eqb}
+use Rattle.std.specs.Prelude.{ℕ, zero, suc, eqb, Option, Some, None}
 use Rattle.lists.specs.Lists.{first, up_from}
 use Rattle.table.specs.Layout.{most_slots, table_words}
 
@@ -7,3 +7,8 @@ use Rattle.table.specs.Layout.{most_slots, table_words}
 -- is none.
 unfoldable pub slots_for : ℕ → ℕ
 slots_for words = first 0 (λ many. eqb words (table_words many)) (up_from 1 most_slots)
+
+-- The same as an answer: none where the number is zero.
+abbrev pub slots_if : ℕ → Option ℕ
+slots_if zero = None
+slots_if (suc n) = Some (suc n)

@@ -3,26 +3,26 @@
 
 ghost use Rattle.std.specs.Prelude.{◌≡◌};
 ghost use Rattle.table.specs.Contents.{table_order, new_order};
-ghost use Rattle.table_limits.specs.Lengths.{slots_for};
+ghost use Rattle.table_limits.specs.Lengths.{slots_for, slots_if};
 
 use table::{GREATEST_ORDER, HEADER_WORDS, LEAST_ORDER, MOST_SLOTS, SLOT_WORDS};
 
-// The number of slots of a table of so many words; 0 where no table has so many.
-pub fn slots_for(words: usize) -> usize
-    ensures { result ≡ slots_for words }
+// The number of slots of a table of so many words; none where no table has so many.
+pub fn slots_for(words: usize) -> Option<usize>
+    ensures { result ≡ slots_if (slots_for words) }
 {
     if words < HEADER_WORDS + SLOT_WORDS {
-        return 0;
+        return None;
     }
     let rest = words - HEADER_WORDS;
     if rest % SLOT_WORDS != 0 {
-        return 0;
+        return None;
     }
     let many = rest / SLOT_WORDS;
     if MOST_SLOTS < many {
-        return 0;
+        return None;
     }
-    many
+    Some(many)
 }
 
 // Whether a table may have this order.

@@ -27,6 +27,7 @@ use Rattle.treap_structure.proofs.Shape.{top_member, treap_keys}
 use Rattle.treap_structure.proofs.Leaders.{leader_of_root}
 use Rattle.treap_structure.proofs.Ancestors.{leader_leads}
 use Rattle.treap_columns.specs.Positions.{positions, weight_at, InOrder}
+use Rattle.treap_columns.specs.declared.Columns.{Columns}
 use Rattle.treap_columns.proofs.Filled.{column_length}
 use Rattle.treap_columns.proofs.PositionTree.{child_within}
 use Rattle.table_slots.proofs.Placing.{place_all-length}
@@ -95,26 +96,26 @@ module _ (salt : ℕ) (ks weights : List ℕ) (weights-are : take (length ks) we
       → InOrder (take (length ks) weights) (take (length ks) ranking)
   ranking_in_order ranking e = subst₂ InOrder (sym weights-are) (sym e) (in_order (map (priority_with salt) ks))
 
-  pub placed_many : (slots lent : List ℕ)
-      → slots ≡ slots_of (weight_at (take (length ks) weights)) (λ i. home_of (weight_at (take (length ks) weights) i) (length lent)) (length lent) (positions (length (take (length ks) weights)))
-      → length slots ≡ length lent
+  pub placed_many : (slots : List ℕ) (many : ℕ)
+      → slots ≡ slots_of (weight_at (take (length ks) weights)) (λ i. home_of (weight_at (take (length ks) weights) i) many) many (positions (length (take (length ks) weights)))
+      → length slots ≡ many
   unfolding slots_of
-  placed_many slots lent s =
+  placed_many slots many s =
       ap length s
-      ∙ place_all-length (λ i. home_of (weight_at (take (length ks) weights) i) (length lent)) (replicate (length lent) 0)
+      ∙ place_all-length (λ i. home_of (weight_at (take (length ks) weights) i) many) (replicate many 0)
       (sort_by (outranks (weight_at (take (length ks) weights))) (positions (length (take (length ks) weights))))
-      ∙ length-replicate (length lent) 0
+      ∙ length-replicate many 0
 
-  pub prepared_from : (order : ℕ) (left right rank count lead slots lent : List ℕ) (root : ℕ)
+  pub prepared_from : (order : ℕ) (columns : Columns) (slots : List ℕ) (many root : ℕ)
       → root ≡ top (weight_at (take (length ks) weights)) (positions (length (take (length ks) weights)))
-      → Filled order (take (length ks) weights) left right rank count lead
-      → slots ≡ slots_of (weight_at (take (length ks) weights)) (λ i. home_of (weight_at (take (length ks) weights) i) (length lent)) (length lent) (positions (length (take (length ks) weights)))
-      → Prepared order salt ks left right rank count lead slots root
-  prepared_from order left right rank count lead slots lent root r f s =
+      → Filled order (take (length ks) weights) columns
+      → slots ≡ slots_of (weight_at (take (length ks) weights)) (λ i. home_of (weight_at (take (length ks) weights) i) many) many (positions (length (take (length ks) weights)))
+      → Prepared order salt ks columns slots root
+  prepared_from order columns slots many root r f s =
       let ws = map (priority_with salt) ks in
       let n = length ks in
-      let same = placed_many slots lent s in
-      let filled : Filled order ws left right rank count lead = subst (λ (w : List ℕ). Filled order w left right rank count lead) weights-are f in
+      let same = placed_many slots many s in
+      let filled : Filled order ws columns = subst (λ (w : List ℕ). Filled order w columns) weights-are f in
       let space : (column : List ℕ) (g : ℕ → ℕ) → take (length ws) column ≡ map g (positions (length ws)) → n ≤ length column =
       λ column g e. let h = room column (map g (positions (length ws))) (length ws) e (column_length g (length ws)) in let m = length-map ks (priority_with salt) in omega arith
       in
@@ -123,13 +124,13 @@ module _ (salt : ℕ) (ks weights : List ℕ) (weights-are : take (length ks) we
         filled = filled;
         placed =
             s
-            ∙ ap₂ (λ (w : List ℕ) (m : ℕ). slots_of (weight_at w) (λ i. home_of (weight_at w i) (length lent)) (length lent) (positions m)) weights-are many_weights
+            ∙ ap₂ (λ (w : List ℕ) (m : ℕ). slots_of (weight_at w) (λ i. home_of (weight_at w i) many) many (positions m)) weights-are many_weights
             ∙ ap (λ (m : ℕ). slots_of (weight_at ws) (λ i. home_of (weight_at ws i) m) m (positions n)) (sym same);
-        left_room_lem = space left (left_link (weight_at ws) (positions (length ws))) filled.lefts;
-        right_room_lem = space right (right_link (weight_at ws) (positions (length ws))) filled.rights;
-        rank_room = space rank (Levels.rank order (weight_at ws) (positions (length ws))) filled.ranks;
-        count_room = space count (Levels.count order (weight_at ws) (positions (length ws))) filled.counts;
-        leader_room = space lead (leader order (weight_at ws) (positions (length ws))) filled.leaders;
+        left_room = space columns.left (left_link (weight_at ws) (positions (length ws))) filled.lefts;
+        right_room = space columns.right (right_link (weight_at ws) (positions (length ws))) filled.rights;
+        rank_room = space columns.rank (Levels.rank order (weight_at ws) (positions (length ws))) filled.ranks;
+        count_room = space columns.count (Levels.count order (weight_at ws) (positions (length ws))) filled.counts;
+        leader_room = space columns.leader (leader order (weight_at ws) (positions (length ws))) filled.leaders;
       }
 
 -- the root is a position or zero

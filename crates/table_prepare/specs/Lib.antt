@@ -1,2 +1,3 @@
 -- What a table or an image is made from.
+pub mod Blank
 pub mod Prepared

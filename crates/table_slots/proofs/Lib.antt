@@ -1,7 +1,6 @@
 -- Lemmas of the slots over plain lists.
 pub mod Probing
 pub mod Skipping
-pub mod Beginning
 pub mod Placing
 pub mod Placed
 pub mod RelabelSlots

@@ -14,9 +14,11 @@ fn begin(slots: &mut [u16], skip: &mut [u16])
     ensures slots_after { slots.new ≡ replicate (length slots.old) 0 }
     ensures skips { Skips slots.new skip.new }
 {
-    for i in 0..slots.len() {
-        slots[i] = 0;
-        skip[i] = i as u16;
+    // Zero is an empty slot, as in the definition `slots_of`.
+    slots.fill(0);
+    // By number, as the number itself is what is written, and `skip` may be longer.
+    for slot in 0..slots.len() {
+        skip[slot] = slot as u16;
     }
 }
 
@@ -26,7 +28,7 @@ fn first_empty(slots: &[u16], home: usize, skip: &mut [u16]) -> usize
     requires skips { Skips slots.now skip.old }
     requires home_in_bounds { (home < length slots.now) × (first_empty slots.now home < length slots.now) }
     ensures value { result ≡ first_empty slots.now home }
-    ensures skips_2 { Skips slots.now skip.new }
+    ensures skips_after { Skips slots.now skip.new }
 {
     let mut at = home;
     while slots[at] != 0 {
@@ -42,7 +44,7 @@ fn put(slots: &mut [u16], skip: &mut [u16], home: usize, position: u16)
     requires skips { Skips slots.old skip.old }
     requires home_in_bounds { (home < length slots.old) × (first_empty slots.old home < length slots.old) × (length slots.old ≤ most_positions) × (position ≢ 0) }
     ensures slots_after { slots.new ≡ set slots.old (first_empty slots.old home) position }
-    ensures skips_2 { Skips slots.new skip.new }
+    ensures skips_after { Skips slots.new skip.new }
 {
     let at = first_empty(slots, home, skip);
     let mut next = at + 1;
@@ -62,9 +64,8 @@ pub fn place(weights: &[u64], order: &[u16], slots: &mut [u16], skip: &mut [u16]
 {
     begin(slots, skip);
     let many = slots.len() as u64;
-    for j in 0..order.len() {
-        let i = order[j];
-        let home = priority::home(weights[i as usize], many);
-        put(slots, skip, home as usize, i + 1);
+    for i in order {
+        let home = priority::home(weights[*i as usize], many);
+        put(slots, skip, home as usize, *i + 1);
     }
 }

@@ -2,12 +2,13 @@
 -- Assumes nothing.
 use mathlib.Core.List.{List, [], ◌∷◌, ◌++◌}
 use mathlib.Core.Path.{◌≡◌, refl, sym, ap, ◌∙◌}
-use Prim.Native.Nat.{ℕ, zero, suc, ◌^◌, ◌/◌, ◌%◌, ◌≤◌, ◌<◌}
+use Prim.Native.Nat.{ℕ, zero, suc, ◌+◌, ◌*◌, ◌^◌, ◌/◌, ◌%◌, ◌≤◌, ◌<◌}
 use native.Mathlib.Nat.{mod-eq_of_lt, pow-suc}
 use native.Mathlib.Omega.{arith}
 use lib.Dec.{ltb}
 use lib.ListN.{length, length-append}
 use borrow.Author.Tests.{lt-ltb, le-ltb, ltb-true, ltb-false}
+use Rattle.std.specs.Prelude.{Option, Some, None, unwrap_or, IfNone, IfSome}
 use Rattle.lists.proofs.Tests.{by_test}
 use Rattle.text.specs.Digits.{digit, digits, decimal_up_to, decimal}
 
@@ -41,6 +42,17 @@ decimal_longer n h = ap length (decimal_more n h) ∙ length-append (decimal (n 
 
 pub decimal_single : (n : ℕ) → n < 10 → length (decimal n) ≡ 1
 decimal_single n h = ap length (decimal_digit n h)
+
+pub decimal_long : (tens n : ℕ) → 10 ^ tens ≤ n → n < 10 * 10 ^ tens → length (decimal n) ≡ suc tens
+decimal_long zero n h k = decimal_single n (omega arith)
+decimal_long (suc tens) n h k =
+    let more = pow-suc 10 tens in
+    omega (arith, decimal_longer n (omega arith), decimal_long tens (n / 10) (omega arith) (omega arith))
+
+-- from the power of ten that it reaches, of which zero reaches none
+pub decimal_reaches : (n : ℕ) (tens : Option ℕ) → IfNone tens (n ≡ 0) → IfSome tens (λ k. 10 ^ k ≤ n) → IfSome tens (λ k. n < 10 * 10 ^ k) → unwrap_or tens 0 + 1 ≡ length (decimal n)
+decimal_reaches n None none low high = sym (decimal_single n (omega arith))
+decimal_reaches n (Some k) none low high = omega (arith, decimal_long k n low high)
 
 pub decimal_fits : (many n : ℕ) → n < 10 ^ suc many → length (decimal n) ≤ suc many
 decimal_fits zero n h = omega (arith, decimal_single n h)

@@ -1,13 +1,14 @@
 -- Text written piece by piece. Assumes nothing.
 use mathlib.Core.List.{List, [], ◌++◌}
 use mathlib.Core.Path.{◌≡◌, refl, sym, ap, ◌∙◌}
-use Prim.Native.Nat.{ℕ, suc, ◌+◌, ◌≤◌, ◌<◌}
+use Prim.Native.Nat.{ℕ, ◌+◌, ◌-◌, ◌≤◌}
 use native.Mathlib.Omega.{arith}
-use lib.ListN.{length, get_or, set, take, length-append}
-use lib.Seq.{length-take-le, take-suc, take_all}
+use borrow.Rule.Slice.PartMut.{put_mid}
+use lib.ListN.{length, length-append}
+use lib.Seq.{drop-drop}
 use Rattle.lists.specs.Lists.{overwrite}
 use Rattle.lists.proofs.Overwrite.{overwrite_none, overwrite-length}
-use Rattle.lists.proofs.Parts.{overwrite_next, overwrite_more}
+use Rattle.lists.proofs.Parts.{overwrite_next}
 use Rattle.text.specs.Written.{Written}
 
 module _ {before : List ℕ} {at : ℕ} {text after : List ℕ} {end : ℕ} (first : Written before at text after end) where
@@ -31,33 +32,13 @@ module _ {before : List ℕ} {at : ℕ} {text after : List ℕ} {end : ℕ} (fir
 pub written_none : (before : List ℕ) (at : ℕ) → Written before at [] before at
 written_none before at = record { holds = sym (overwrite_none before at); ends = omega arith }
 
--- ---- byte by byte
--- The first `i` bytes of the text stand in the output from index `at` on; all else is as it was before.
-pub record Begun (before : List ℕ) (at : ℕ) (text output : List ℕ) (i : ℕ) : Type 0 where
-  pub upto : i ≤ length text
-  pub holds : output ≡ overwrite before at (take i text)
-
-pub begun_none : (before : List ℕ) (at : ℕ) (text : List ℕ) → Begun before at text before 0
-begun_none before at text = record { upto = omega arith; holds = sym (overwrite_none before at) }
-
-module _ {before : List ℕ} {at : ℕ} {text output : List ℕ} {i : ℕ} (state : Begun before at text output i) (fits : at + length text ≤ length before) where
-  pub begun_size : length output ≡ length before
-  begun_size =
-      let u = state.upto in
-      ap length state.holds ∙ overwrite-length before at (take i text) (omega (arith, length-take-le i text u))
-
-  pub begun_more : i < length text → Begun before at text (set output (at + i) (get_or text i 0)) (suc i)
-  begun_more h =
-      record {
-        upto = h;
-        holds =
-            ap (λ (l : List ℕ). set l (at + i) (get_or text i 0)) state.holds
-            ∙ overwrite_more at (at + i) (take i text) before (ap (λ (n : ℕ). at + n) (length-take-le i text (omega arith))) (omega arith) (get_or text i 0) (omega arith)
-            ∙ ap (overwrite before at) (sym (take-suc text i 0 h));
-      }
-
-  pub begun_all : length text ≤ i → Written before at text output (at + length text)
-  begun_all h = record { holds = state.holds ∙ ap (overwrite before at) (take_all i text h); ends = refl }
+-- a part of the output that has become the text
+pub written_part : (before : List ℕ) (at : ℕ) (text part : List ℕ) (many : ℕ) → many ≡ length text → part ≡ text
+    → Written before at text (put_mid at (at + many - at) before part) (at + many)
+unfolding overwrite
+written_part before at text part many long is =
+    let room : at + many - at ≡ many = omega arith in
+    record { holds = rw (room, is, drop-drop, long) refl; ends = ap (λ (n : ℕ). at + n) long }
 
 -- ---- room for the next piece, and for what comes before it
 pub front_fits : (at : ℕ) (text more : List ℕ) (room : ℕ) → at + length (text ++ more) ≤ room → at + length text ≤ room

@@ -3,8 +3,7 @@
 #![tactic(auto)]
 
 ghost use Rattle.std.specs.Prelude.{◌≡◌, ◌+◌, ◌<◌, ◌≤◌, length};
-ghost use Rattle.text.specs.Digits.{digits, decimal, hexadecimal};
-ghost use Rattle.text.specs.Digits.{digit as Digits·digit};
+ghost use Rattle.text.specs.Digits.{digit, digits, decimal, hexadecimal};
 ghost use Rattle.text.specs.Columns.{spaces, right_aligned};
 ghost use Rattle.text.specs.Written.{Written};
 
@@ -16,7 +15,7 @@ const SPACE: u8 = 32;
 // The character of a digit below sixteen, letters capital.
 fn digit(d: u64) -> u8
     requires { d < 16 }
-    ensures { result ≡ Digits·digit d }
+    ensures { result ≡ digit d }
 {
     if d < 10 { 48 + d as u8 } else { 55 + d as u8 }
 }
@@ -26,27 +25,21 @@ pub fn put_digits(output: &mut [u8], at: usize, base: u64, many: usize, n: u64) 
     requires { (0 < base) × (base ≤ 16) × (at + many ≤ length output.old) }
     ensures { Written output.old at (digits base many n) output.new result }
 {
-    let mut i = at + many;
+    let end = at + many;
     let mut rest = n;
-    while at < i {
-        i -= 1;
+    for i in (at..end).rev() {
         output[i] = digit(rest % base);
         rest /= base;
     }
-    at + many
+    end
 }
 
-// How many digits a number has in base ten, without leading zeros.
+// How many digits a number has in base ten, without leading zeros: at most twenty.
 pub fn decimal_length(n: u64) -> usize
-    ensures { result ≡ length (decimal n) }
+    ensures value { result ≡ length (decimal n) }
+    ensures upper_bound { result ≤ 20 }
 {
-    let mut many = 1;
-    let mut rest = n;
-    while 10 <= rest {
-        rest /= 10;
-        many += 1;
-    }
-    many
+    n.checked_ilog10().unwrap_or(0) as usize + 1
 }
 
 // Write a number in base ten, without leading zeros. Internal.
@@ -79,10 +72,9 @@ pub fn put_spaces(output: &mut [u8], at: usize, many: usize) -> usize
     requires { at + many ≤ length output.old }
     ensures { Written output.old at (spaces many) output.new result }
 {
-    for i in 0..many {
-        output[at + i] = SPACE;
-    }
-    at + many
+    let end = at + many;
+    output[at..end].fill(SPACE);
+    end
 }
 
 // Write bytes as they are. Internal.
@@ -90,8 +82,7 @@ pub fn put_bytes(output: &mut [u8], at: usize, text: &[u8]) -> usize
     requires { at + length text.now ≤ length output.old }
     ensures { Written output.old at text.now output.new result }
 {
-    for i in 0..text.len() {
-        output[at + i] = text[i];
-    }
-    at + text.len()
+    let end = at + text.len();
+    output[at..end].copy_from_slice(text);
+    end
 }

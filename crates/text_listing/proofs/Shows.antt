@@ -6,12 +6,14 @@ use mathlib.Core.Path.{◌≡◌, refl, sym, ap, ap₂, ◌∙◌, subst, subst�
 use Prim.Native.Nat.{ℕ, suc, min, ◌+◌, ◌≤◌}
 use native.Mathlib.Omega.{arith}
 use lib.Dec.{ltb}
-use lib.ListN.{length, drop, length-append}
+use lib.ListN.{length, get_or, drop, length-append}
+use mir.Syntax.{w8}
+use mir.Val.{Fits}
 use lib.Seq.{drop_at}
 use borrow.Author.Tests.{ltb-false}
 use Rattle.lists.specs.Lists.{All, member}
 use Rattle.lists.proofs.Tests.{by_test}
-use Rattle.lists.proofs.Keep.{all_map, all_both}
+use Rattle.lists.proofs.Keep.{all_map, all_both, all_of_indices}
 use Rattle.lists.proofs.Membership.{all_member}
 use Rattle.measure.specs.Measure.{stored_correction}
 use Rattle.treap.specs.Treap.{top, left_link, right_link}
@@ -22,17 +24,18 @@ use Rattle.treap_structure.proofs.Blocks.{Holds, blocks_hold}
 use Rattle.table.specs.Layout.{most_slots}
 use Rattle.table.specs.Contents.{Contents, Valid, keys_in, priority_in, measure_in}
 use Rattle.table.proofs.Orders.{order_within, order_wide}
-use Rattle.image.specs.Layout.{block_bytes, size_at, root_at, held_at, most_bytes, IsByte}
-use Rattle.image.specs.Image.{image_of, read_image, is_image, field_at, nodes_span}
+use Rattle.image.specs.Layout.{block_bytes, blocks_at, size_at, root_at, held_at, most_bytes, IsByte}
+use Rattle.image.specs.Image.{image_of, read_image, is_image, header_span, field_at, nodes_span}
 use Rattle.image.proofs.Judging.{is_image_says}
 use Rattle.image.proofs.Records.{header_within, block_held, block_dropped, node_key}
 use Rattle.image.proofs.Lengths.{block_part-length, image_is, image_longest}
 use Rattle.image.proofs.Reading.{node_of_left, nodes_first, nodes_span_lem, order_read, number_read, header_inside, parts_read}
 use Rattle.image.proofs.Fits.{HeaderFits, BlockFits, NodeFits, header_fits, blocks_fit_fields, nodes_fit_fields}
+use Rattle.text.proofs.Pieces.{front_fits}
 use Rattle.text_listing.specs.Listing.{key_line_of, block_lines, listing, listing_of}
-use Rattle.text_listing.specs.Shown.{shown_key, shown_keys, held_in, part_bytes, shown_block_line, shown_block, shown_blocks, shown, HasBlocks, HasRecords}
-use Rattle.text_listing.proofs.RecordFields.{header_size, header_root, block_leader_lem, block_level_lem, node_rank, node_count}
-use Rattle.text_listing.proofs.Walking.{key_line_shown, block_line_shown, header_line_shown}
+use Rattle.text_listing.specs.Shown.{shown_key, shown_keys, held_in, part_bytes, shown_block_line, shown_block, shown_blocks, shown_header, shown, HasBlocks, HasRecords}
+use Rattle.text_listing.specs.Lines.{text_of, header_in}
+use Rattle.text_listing.proofs.RecordFields.{header_size, header_root, block_leader_lem, block_level_lem, node_rank, node_count, key_line_shown, block_line_shown, header_line_shown}
 
 -- A block whose records show its lines.
 pub record Listable (c : Contents) (b : Block) : Type 0 where
@@ -190,8 +193,11 @@ module _ (c : Contents) (valid : Valid most_slots c) where
         blocks = subst₂ HasBlocks (sym (number_read c valid)) (sym (parts_read c valid)) (blocks_there c all_blocks listable);
       }
 
--- ---- bytes that are an image
-module _ (bytes : List ℕ) (are-bytes : All IsByte bytes) (passed : is_image bytes ≡ true) where
+-- ---- lent bytes that are an image
+module _ (bytes : List ℕ) (lent : (i : ℕ) → Fits w8 (get_or bytes i 0)) (passed : is_image bytes ≡ true) where
+  are-bytes : All IsByte bytes
+  are-bytes = all_of_indices IsByte bytes 0 (λ i h. omega (arith, lent i))
+
   abbrev contents : Contents
   contents = read_image bytes
 
@@ -203,6 +209,14 @@ module _ (bytes : List ℕ) (are-bytes : All IsByte bytes) (passed : is_image by
 
   pub bytes_show : shown bytes ≡ listing_of (read_image bytes)
   bytes_show = ap shown says.1 ∙ image_shows contents says.0
+
+  -- there is room for the lines where there is for the listing
+  pub bytes_fit : (room : ℕ) → length (listing_of (read_image bytes)) ≤ room → 0 + length (shown bytes) ≤ room
+  bytes_fit room h = omega (arith, ap length bytes_show, h)
+
+  pub listing_header_fits : (room : ℕ) → length (listing_of (read_image bytes)) ≤ room → 0 + length (text_of (header_in bytes)) ≤ room
+  unfolding shown shown_header
+  listing_header_fits room h = front_fits 0 (shown_header bytes) (shown_blocks (field_at blocks_at count_bytes bytes) (drop (header_span bytes) bytes)) room (bytes_fit room h)
 
   pub bytes_most : length bytes ≤ most_bytes
   bytes_most = omega (arith, ap length says.1, image_longest contents says.0)

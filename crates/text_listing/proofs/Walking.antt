@@ -1,128 +1,124 @@
--- The lines of records one after the other: a node record's, then those of the records after it; a block's, then those of the blocks
--- after it. Assumes nothing.
-use mathlib.Core.List.{List, ◌++◌}
-use mathlib.Core.Path.{◌≡◌, refl, sym, ap, ◌∙◌, subst}
+-- The lines of records one after the other: a node record's, then those of the records after it; a block's, then those of its keys and
+-- of the blocks after it. Assumes nothing.
+use mathlib.Core.List.{List, ◌++◌, append_assoc}
+use mathlib.Core.Path.{◌≡◌, refl, sym, ap, ap₂, ◌∙◌, subst, subst₂}
 use Prim.Native.Nat.{ℕ, suc, ◌+◌, ◌-◌, ◌≤◌, ◌<◌}
 use native.Mathlib.Omega.{arith}
-use lib.ListN.{length, drop, length-drop}
+use lib.ListN.{length, take, drop, length-drop}
 use lib.Seq.{drop-drop}
-use Rattle.treap.specs.Image.{order_bytes, count_bytes, key_bytes}
-use Rattle.treap.specs.Blocks.{fill}
-use Rattle.image.specs.Layout.{block_bytes, node_bytes, order_at, size_at, blocks_at, root_at, leader_at, level_at, held_at, key_at, rank_at, count_at}
-use Rattle.image.specs.Image.{field_at, node_span, nodes_span}
+use Rattle.treap.specs.Image.{count_bytes}
+use Rattle.image.specs.Layout.{header_bytes, block_bytes, node_bytes, blocks_at}
+use Rattle.image.specs.Image.{header_span, field_at, node_span, nodes_span}
+use Rattle.image.proofs.Records.{header_within}
 use Rattle.image_collect.proofs.Nodes.{span_least}
-use Rattle.image_collect.proofs.Passing.{field_from}
-use Rattle.text_lines.specs.Lines.{header_line, block_line, key_line}
-use Rattle.text_listing.specs.Shown.{shown_key, shown_keys, held_in, part_bytes, shown_block_line, shown_block, shown_blocks, shown_header, HasBlocks}
+use Rattle.image_collect.proofs.Passing.{from_index}
+use Rattle.text_listing.specs.declared.line.Line.{Line}
+use Rattle.text_listing.specs.Shown.{shown_key, shown_keys, held_in, part_bytes, shown_block_line, shown_block, shown_blocks, shown_header, shown, HasBlocks, HasRecords}
+use Rattle.text_listing.specs.Lines.{text_of, record_bytes, header_in, block_in, key_in, shown_left, HasLeft}
 
--- ---- a line from the fields that are read
-pub key_line_shown : (node : List ℕ) (key rank count : ℕ) → key ≡ field_at key_at key_bytes node → rank ≡ field_at rank_at count_bytes node
-    → count ≡ field_at count_at count_bytes node → key_line key rank count ≡ shown_key node
-unfolding shown_key
-key_line_shown node key rank count e f g = rw (e, f, g)
+-- Of the records the first shows a line; those after it are there, and are what is left.
+pub record Turn (keys blocks : ℕ) (bytes : List ℕ) (line : Line) (keys-left blocks-left : ℕ) (rest : List ℕ) : Type 0 where
+  pub shows : shown_left keys blocks bytes ≡ text_of line ++ shown_left keys-left blocks-left rest
+  pub passes : record_bytes line + length rest ≤ length bytes
+  pub shorter : length rest < length bytes
+  pub there : HasLeft keys-left blocks-left rest
 
-pub block_line_shown : (part : List ℕ) (leader level held : ℕ) → leader ≡ field_at leader_at key_bytes part → level ≡ field_at level_at count_bytes part
-    → held ≡ field_at held_at count_bytes part → block_line leader level held ≡ shown_block_line part
-unfolding shown_block_line held_in
-block_line_shown part leader level held e f g = rw (e, f, g)
+-- ---- a node record first
+module _ (keys blocks : ℕ) (bytes : List ℕ) where
+  abbrev after : List ℕ
+  after = drop (node_span bytes) bytes
 
-pub header_line_shown : (image : List ℕ) (order keys blocks filled root : ℕ) → order ≡ field_at order_at order_bytes image → keys ≡ field_at size_at count_bytes image
-    → blocks ≡ field_at blocks_at count_bytes image → filled ≡ fill order keys blocks → root ≡ field_at root_at key_bytes image
-    → header_line order keys blocks filled root ≡ shown_header image
-unfolding shown_header
-header_line_shown image order keys blocks filled root e f g h k = rw (h, e, f, g, k)
+  -- the blocks are after all of them
+  blocks_after : drop (nodes_span (suc keys) bytes) bytes ≡ drop (nodes_span keys after) after
+  blocks_after = sym (drop-drop (nodes_span keys after) (node_span bytes) bytes)
 
--- ---- bytes from an index on
-pub held_at_lem : (at : ℕ) (bytes : List ℕ) → field_at (at + held_at) count_bytes bytes ≡ held_in (drop at bytes)
-unfolding held_in
-held_at_lem at bytes = sym (field_from at held_at count_bytes bytes)
-
--- ---- node records
--- Of so many node records, `left` from byte `at` on are still to come.
-pub record Ahead (records : List ℕ) (many left at : ℕ) : Type 0 where
-  pub spans : at + nodes_span left (drop at records) ≡ nodes_span many records
-
-pub ahead_all : (records : List ℕ) (many : ℕ) → Ahead records many many 0
-ahead_all records many = record { spans = omega arith }
-
-pub ahead_none : {records : List ℕ} {many left at : ℕ} → Ahead records many left at → left ≡ 0 → at ≡ nodes_span many records
-ahead_none {records} {many} {left} {at} state e =
-    sym (omega (arith, ap (λ (n : ℕ). nodes_span n (drop at records)) e)) ∙ state.spans
-
-module _ {records : List ℕ} {many left at : ℕ} (fits : nodes_span many records ≤ length records) (state : Ahead records many left at) where
-  -- where they begin, and where the next of them ends
-  pub ahead_within : at ≤ length records
-  ahead_within = omega (arith, state.spans)
-
-  module _ (turn : 0 < left) where
-    -- the bytes from the next record on
-    abbrev here : List ℕ
-    here = drop at records
-
-    more : left ≡ suc (left - 1)
-    more = omega arith
-
-    pub ahead_next : (end : ℕ) → end ≡ at + node_span here → Ahead records many (left - 1) end
-    ahead_next end e =
-        let after : drop (node_span here) here ≡ drop end records = drop-drop (node_span here) at records ∙ ap (λ (n : ℕ). drop n records) (sym e) in
-        let first : nodes_span left here ≡ node_span here + nodes_span (left - 1) (drop end records) =
-        ap (λ (n : ℕ). nodes_span n here) more ∙ ap (λ (rest : List ℕ). node_span here + nodes_span (left - 1) rest) after
-        in
-        record { spans = omega (arith, e, first, state.spans) }
-
-    pub ahead_inside : at + node_span here ≤ length records
-    ahead_inside = omega (arith, (ahead_next (at + node_span here) refl).spans)
-
-    pub ahead_node : node_bytes ≤ length here
-    ahead_node = omega (arith, ahead_inside, span_least here, length-drop at records)
-
-    pub keys_next : (end : ℕ) → end ≡ at + node_span here → shown_keys left here ≡ shown_key here ++ shown_keys (left - 1) (drop end records)
-    keys_next end e =
-        ap (λ (n : ℕ). shown_keys n here) more
-        ∙ ap (λ (rest : List ℕ). shown_key here ++ shown_keys (left - 1) rest) (drop-drop (node_span here) at records ∙ ap (λ (n : ℕ). drop n records) (sym e))
-
--- ---- a block's records
-pub part_nodes : (part : List ℕ) → part_bytes part ≡ block_bytes + nodes_span (held_in part) (drop block_bytes part)
-unfolding part_bytes
-part_nodes part = refl
-
--- Of the bytes so many blocks' records from index `at` on are still to come.
-pub record Coming (bytes : List ℕ) (left at : ℕ) : Type 0 where
-  pub reach : at ≤ length bytes
-  pub has : HasBlocks left (drop at bytes)
-
-pub coming_all : (bytes : List ℕ) (many : ℕ) → HasBlocks many bytes → Coming bytes many 0
-coming_all bytes many h = record { reach = omega arith; has = h }
-
-module _ (bytes : List ℕ) (at : ℕ) where
-  -- where the next block's records end
-  abbrev pub end_from : ℕ
-  end_from = at + part_bytes (drop at bytes)
-
-  -- The lines of so many blocks from there on.
-  abbrev pub blocks_from : ℕ → List ℕ
-  blocks_from left = shown_blocks left (drop at bytes)
-
-module _ {bytes : List ℕ} {left at : ℕ} (state : Coming bytes left at) (turn : 0 < left) where
-  there : HasBlocks (suc (left - 1)) (drop at bytes)
-  there = let more : left ≡ suc (left - 1) = omega arith in subst (λ (n : ℕ). HasBlocks n (drop at bytes)) more state.has
-
-  -- they lie among the bytes
-  pub part_inside : part_bytes (drop at bytes) ≤ length (drop at bytes)
-  part_inside = there.0
-
-  pub coming_end : end_from bytes at ≤ length bytes
-  coming_end = let r = state.reach in let h = part_inside in omega (arith, length-drop at bytes)
-
-  pub coming_next : Coming bytes (left - 1) (end_from bytes at)
-  coming_next =
+  key_turn : HasLeft (suc keys) blocks bytes → Turn (suc keys) blocks bytes (key_in bytes) keys blocks after
+  unfolding shown_key
+  key_turn there =
       record {
-        reach = coming_end;
-        has = subst (HasBlocks (left - 1)) (drop-drop (part_bytes (drop at bytes)) at bytes) there.1;
+        shows =
+            append_assoc (shown_key bytes) (shown_keys keys after) (shown_blocks blocks (drop (nodes_span (suc keys) bytes) bytes))
+            ∙ ap (λ (rest : List ℕ). shown_key bytes ++ (shown_keys keys after ++ shown_blocks blocks rest)) blocks_after;
+        passes = omega (arith, there.0, span_least bytes, length-drop (node_span bytes) bytes);
+        shorter = omega (arith, there.0, span_least bytes, length-drop (node_span bytes) bytes);
+        there = (omega (arith, there.0, length-drop (node_span bytes) bytes), subst (HasBlocks blocks) blocks_after there.1);
       }
 
-  pub blocks_next : blocks_from bytes at left ≡ shown_block (drop at bytes) ++ blocks_from bytes (end_from bytes at) (left - 1)
-  blocks_next =
-      let more : left ≡ suc (left - 1) = omega arith in
-      ap (λ (n : ℕ). shown_blocks n (drop at bytes)) more
-      ∙ ap (λ (rest : List ℕ). shown_block (drop at bytes) ++ shown_blocks (left - 1) rest) (drop-drop (part_bytes (drop at bytes)) at bytes)
+-- ---- a block's record first
+module _ (blocks : ℕ) (bytes : List ℕ) (there : HasLeft 0 (suc blocks) bytes) where
+  abbrev nodes : List ℕ
+  nodes = drop block_bytes bytes
+
+  part_is : part_bytes bytes ≡ block_bytes + nodes_span (held_in bytes) nodes
+  unfolding part_bytes
+  part_is = refl
+
+  later : drop (part_bytes bytes) bytes ≡ drop (nodes_span (held_in bytes) nodes) nodes
+  later = ap (λ (n : ℕ). drop n bytes) part_is ∙ sym (drop-drop (nodes_span (held_in bytes) nodes) block_bytes bytes)
+
+  block_turn : Turn 0 (suc blocks) bytes (block_in bytes) (held_in bytes) blocks nodes
+  unfolding shown_block shown_block_line held_in
+  block_turn =
+      let line = shown_block_line bytes in
+      let held = shown_keys (held_in bytes) nodes in
+      record {
+        shows = append_assoc line held (shown_blocks blocks (drop (part_bytes bytes) bytes)) ∙ ap (λ (rest : List ℕ). line ++ (held ++ shown_blocks blocks rest)) later;
+        passes = omega (arith, there.1.0, part_is, length-drop block_bytes bytes);
+        shorter = omega (arith, there.1.0, part_is, length-drop block_bytes bytes);
+        there = (omega (arith, there.1.0, part_is, length-drop block_bytes bytes), subst (HasBlocks blocks) later there.1.1);
+      }
+
+-- ---- what is left is handed on as a part of the bytes
+module _ (keys blocks : ℕ) (bytes : List ℕ) (there : HasLeft keys blocks bytes) where
+  module _ (turn : 0 < keys) where
+    more_keys : keys ≡ suc (keys - 1)
+    more_keys = omega arith
+
+    key_there : HasLeft (suc (keys - 1)) blocks bytes
+    key_there = subst (λ (n : ℕ). HasLeft n blocks bytes) more_keys there
+
+    pub key_inside : node_bytes ≤ length bytes
+    key_inside = omega (arith, key_there.0, span_least bytes)
+
+    pub key_passed : (span : ℕ) → span ≡ node_span bytes → (line : Line) → line ≡ key_in bytes
+        → Turn keys blocks bytes line (keys - 1) blocks (take (length bytes - span) (drop span bytes))
+    key_passed span e line f =
+        subst (λ (shown : Line). Turn keys blocks bytes shown (keys - 1) blocks (take (length bytes - span) (drop span bytes))) (sym f)
+        (subst₂ (λ (n : ℕ) (rest : List ℕ). Turn n blocks bytes (key_in bytes) (keys - 1) blocks rest) (sym more_keys)
+        (ap (λ (n : ℕ). drop n bytes) (sym e) ∙ sym (from_index span bytes))
+        (key_turn (keys - 1) blocks bytes key_there))
+
+  module _ (no_key : keys ≤ 0) (turn : 0 < blocks) where
+    no_keys : keys ≡ 0
+    no_keys = omega arith
+
+    more_blocks : blocks ≡ suc (blocks - 1)
+    more_blocks = omega arith
+
+    block_there : HasLeft 0 (suc (blocks - 1)) bytes
+    block_there = subst₂ (λ (n m : ℕ). HasLeft n m bytes) no_keys more_blocks there
+
+    pub block_inside : block_bytes ≤ length bytes
+    block_inside = omega (arith, block_there.1.0, part_is (blocks - 1) bytes block_there)
+
+    pub block_passed : (held : ℕ) → held ≡ held_in bytes → (line : Line) → line ≡ block_in bytes
+        → Turn keys blocks bytes line held (blocks - 1) (take (length bytes - block_bytes) (drop block_bytes bytes))
+    block_passed held e line f =
+        let rest = take (length bytes - block_bytes) (drop block_bytes bytes) in
+        subst (λ (shown : Line). Turn keys blocks bytes shown held (blocks - 1) rest) (sym f)
+        (subst₂ (λ (n m : ℕ). Turn n m bytes (block_in bytes) held (blocks - 1) rest) (sym no_keys) (sym more_blocks)
+        (subst₂ (λ (n : ℕ) (later : List ℕ). Turn 0 (suc (blocks - 1)) bytes (block_in bytes) n (blocks - 1) later) (sym e) (sym (from_index block_bytes bytes))
+        (block_turn (blocks - 1) bytes block_there)))
+
+-- ---- what is left after the header
+module _ (image bytes : List ℕ) (e : bytes ≡ drop (header_span image) image) where
+  pub header_shows : (blocks : ℕ) → blocks ≡ field_at blocks_at count_bytes image → shown image ≡ text_of (header_in image) ++ shown_left 0 blocks bytes
+  unfolding shown shown_header
+  header_shows blocks f = ap₂ (λ (n : ℕ) (rest : List ℕ). shown_header image ++ shown_blocks n rest) (sym f) (sym e)
+
+  module _ (right : HasRecords image) where
+    pub header_there : (blocks : ℕ) → blocks ≡ field_at blocks_at count_bytes image → HasLeft 0 blocks bytes
+    header_there blocks f = (omega arith, subst₂ HasBlocks (sym f) (sym e) right.blocks)
+
+    pub header_passed : header_bytes + length bytes ≤ length image
+    header_passed = omega (arith, ap length e, length-drop (header_span image) image, header_within image, right.whole)

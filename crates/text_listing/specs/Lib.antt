@@ -2,3 +2,4 @@
 pub mod Listing
 pub mod Shown
 pub mod Claims
+pub mod Lines

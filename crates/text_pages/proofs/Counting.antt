@@ -1,7 +1,7 @@
 -- How many pages there are, and which keys stand on each. Assumes nothing.
 use mathlib.Core.List.{List, [], ◌∷◌, ◌++◌, flat_map, append-nil}
 use mathlib.Core.Path.{◌≡◌, refl, sym, ap, ap₂, ◌∙◌}
-use Prim.Native.Nat.{ℕ, zero, suc, pred, min, ◌+◌, ◌-◌, ◌*◌, ◌/◌, ◌≤◌, ◌<◌}
+use Prim.Native.Nat.{ℕ, zero, suc, pred, min, max, ◌+◌, ◌-◌, ◌*◌, ◌/◌, ◌%◌, ◌≤◌, ◌<◌}
 use native.Mathlib.Omega.{arith}
 use lib.Dec.{eqb, ltb}
 use lib.ListN.{length, take, drop}
@@ -22,6 +22,12 @@ count_none = refl
 pub count_some : (n : ℕ) → (n ≡ 0 → ⊥) → page_count n ≡ (n + (page_keys - 1)) / page_keys
 unfolding page_count rounded_up
 count_some n h = rw (ne_eqb n 0 h)
+
+pub count_rounded : (n : ℕ) → max (n / page_keys + min 1 (n % page_keys)) 1 ≡ page_count n
+count_rounded n =
+    by_test (eqb n 0)
+    (λ e. let none = eqb-true n 0 e in let count = ap page_count none ∙ count_none in omega arith)
+    (λ e. let some = eqb-false n 0 e in let count = count_some n some in omega arith)
 
 -- the keys of the pages before the last are there, and those of all pages are all
 pub pages_reach : (n : ℕ) → (1 ≤ page_count n) × (page_keys * pred (page_count n) ≤ n) × (n ≤ page_keys * page_count n)

@@ -12,6 +12,7 @@ use Rattle.lists.proofs.Keep.{all_at, all_map}
 use Rattle.lists.proofs.FlatMap.{flat_map-same}
 use Rattle.lists.proofs.UpFrom.{up_from_within}
 use Rattle.measure.specs.Tag.{measure_at, is_tag}
+use Rattle.treap_columns.specs.declared.Columns.{Columns}
 use Rattle.table.specs.Layout.{most_slots}
 use Rattle.table.specs.Contents.{Contents, Entry, keys_in, measure_in, right_measure}
 use Rattle.table.specs.Tags.{tags_in, Beside}
@@ -37,25 +38,25 @@ by_index g h xs (suc many) low high e fits same =
     (by_index g h xs many (suc low) high (omega arith) fits (λ i l k. same i (omega arith) k))
 
 -- a page is the line of its number, counted from one, and those of its keys
-pub page_pieces : (keys tags ranks counts leaders : List ℕ) (before end : ℕ) → end ≡ page_end (length keys) before
-    → shown_page keys tags ranks counts leaders before ≡ heading_line (before + 1) ++ shown_lines keys tags ranks counts leaders (page_keys * before) end
+pub page_pieces : (keys tags : List ℕ) (columns : Columns) (before end : ℕ) → end ≡ page_end (length keys) before
+    → shown_page keys tags columns before ≡ heading_line (before + 1) ++ shown_lines keys tags columns (page_keys * before) end
 unfolding shown_page
-page_pieces keys tags ranks counts leaders before end e =
+page_pieces keys tags columns before end e =
     let number : suc before ≡ before + 1 = omega arith in
-    ap₂ (λ (n to : ℕ). heading_line n ++ shown_lines keys tags ranks counts leaders (page_keys * before) to) number (sym e)
+    ap₂ (λ (n to : ℕ). heading_line n ++ shown_lines keys tags columns (page_keys * before) to) number (sym e)
 
 module _ (c : Contents) (few : length (keys_in c) ≤ most_slots) (rising : Rising (keys_in c)) (right : All (λ e. right_measure e ≡ true) c.entries)
-    {keys tags ranks counts leaders : List ℕ} (keys_are : keys ≡ keys_in c) (tags_are : tags ≡ tags_in c) (stands : StandingsOf c.order c.salt (keys_in c) ranks counts leaders) where
+    {keys tags : List ℕ} {columns : Columns} (keys_are : keys ≡ keys_in c) (tags_are : tags ≡ tags_in c) (stands : StandingsOf c.order c.salt (keys_in c) columns) where
   beside : Beside keys tags
   beside = beside_of c.entries right keys_are tags_are
 
-  standing : StandingsOf c.order c.salt keys ranks counts leaders
-  standing = subst (λ (ks : List ℕ). StandingsOf c.order c.salt ks ranks counts leaders) (sym keys_are) stands
+  standing : StandingsOf c.order c.salt keys columns
+  standing = subst (λ (ks : List ℕ). StandingsOf c.order c.salt ks columns) (sym keys_are) stands
 
   as_many : length keys ≡ length (keys_in c)
   as_many = ap length keys_are
 
-  pub printable : Printable keys tags ranks counts leaders
+  pub printable : Printable keys tags columns
   printable =
       record {
         few = omega (arith, as_many, few);
@@ -75,13 +76,13 @@ module _ (c : Contents) (few : length (keys_in c) ≤ most_slots) (rising : Risi
       ap (λ (es : List Entry). measure_in es (get_or keys i 0)) (sym (tagged_is c.entries right keys_are tags_are))
       ∙ found_tagged keys tags i (subst Rising (sym keys_are) rising) h
 
-  line_shown_lem : (i : ℕ) → i < length keys → line_of c (get_or keys i 0) ≡ shown_line keys tags ranks counts leaders i
+  line_shown_lem : (i : ℕ) → i < length keys → line_of c (get_or keys i 0) ≡ shown_line keys tags columns i
   unfolding line_of shown_line
   line_shown_lem i h =
       rw (sym keys_are, standing.rank_is i h, standing.count_is i h, standing.leader_is i h, measure_here i h) refl
 
   -- ---- and so the pages
-  page_shown : (before : ℕ) → before < page_count (length keys) → page_of c before ≡ shown_page keys tags ranks counts leaders before
+  page_shown : (before : ℕ) → before < page_count (length keys) → page_of c before ≡ shown_page keys tags columns before
   unfolding page_of shown_page shown_lines
   page_shown before h =
       let from = page_keys * before in
@@ -90,12 +91,12 @@ module _ (c : Contents) (few : length (keys_in c) ≤ most_slots) (rising : Risi
       ap (λ (ks : List ℕ). heading_line (suc before) ++ flat_map (line_of c) (keys_on before ks)) (sym keys_are)
       ∙ ap (λ (ks : List ℕ). heading_line (suc before) ++ flat_map (line_of c) ks) (keys_upto keys before)
       ∙ ap (λ (lines : List ℕ). heading_line (suc before) ++ lines)
-      (by_index (line_of c) (shown_line keys tags ranks counts leaders) keys (to - from) from to (omega arith) (omega arith) (λ i l k. line_shown_lem i (omega arith)))
+      (by_index (line_of c) (shown_line keys tags columns) keys (to - from) from to (omega arith) (omega arith) (λ i l k. line_shown_lem i (omega arith)))
 
-  pub pages_shown : pages_of c ≡ shown_pages keys tags ranks counts leaders
+  pub pages_shown : pages_of c ≡ shown_pages keys tags columns
   unfolding pages_of shown_pages
   pages_shown =
       ap (λ (ks : List ℕ). flat_map (page_of c) (up_from 0 (page_count (length ks)))) (sym keys_are)
-      ∙ flat_map-same (page_of c) (shown_page keys tags ranks counts leaders) (up_from 0 (page_count (length keys)))
-      (all_map (λ x. (0 ≤ x) × (x < 0 + page_count (length keys))) (λ x. page_of c x ≡ shown_page keys tags ranks counts leaders x)
+      ∙ flat_map-same (page_of c) (shown_page keys tags columns) (up_from 0 (page_count (length keys)))
+      (all_map (λ x. (0 ≤ x) × (x < 0 + page_count (length keys))) (λ x. page_of c x ≡ shown_page keys tags columns x)
       (λ x within. page_shown x (omega (arith, within.1))) (up_from 0 (page_count (length keys))) (up_from_within 0 (page_count (length keys))))

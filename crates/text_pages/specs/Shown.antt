@@ -4,6 +4,7 @@ use mathlib.Core.List.{List, ◌++◌, flat_map}
 use Rattle.lists.specs.Lists.{up_from}
 use Rattle.measure.specs.Tag.{measure_at, is_tag}
 use Rattle.paris_points.specs.Points.{size_of}
+use Rattle.treap_columns.specs.declared.Columns.{Columns}
 use Rattle.table.specs.Layout.{most_slots}
 use Rattle.table_encode.specs.Encode.{key_at}
 use Rattle.text_page_lines.specs.PageLines.{heading_line, page_line}
@@ -14,11 +15,12 @@ use Rattle.text_pages.specs.Pages.{page_keys, page_count}
 abbrev pub page_end : ℕ → ℕ → ℕ
 page_end n before = min (page_keys * before + page_keys) n
 
--- Keys, and beside them the tags of their measures, their ranks, their counts and their leaders; a leader is a position, or zero for none.
-module _ (keys tags ranks counts leaders : List ℕ) where
+-- Keys, and beside them the tags of their measures, and the columns of their ranks, their counts and their leaders; a leader is a position, or zero
+-- for none.
+module _ (keys tags : List ℕ) (columns : Columns) where
   -- The line of the key at an index.
   unfoldable pub shown_line : ℕ → List ℕ
-  shown_line i = page_line (get_or keys i 0) (get_or ranks i 0) (get_or counts i 0) (key_at keys (get_or leaders i 0)) (size_of (measure_at (get_or tags i 0)))
+  shown_line i = page_line (get_or keys i 0) (get_or columns.rank i 0) (get_or columns.count i 0) (key_at keys (get_or columns.leader i 0)) (size_of (measure_at (get_or tags i 0)))
 
   -- The lines of the keys from one index up to another, that one left out.
   unfoldable pub shown_lines : ℕ → ℕ → List ℕ
@@ -35,10 +37,10 @@ module _ (keys tags ranks counts leaders : List ℕ) where
   pub record Printable : Type 0 where
     pub few : length keys ≤ most_slots
     pub tag_long : length keys ≤ length tags
-    pub rank_long : length keys ≤ length ranks
-    pub count_long : length keys ≤ length counts
-    pub leader_long : length keys ≤ length leaders
+    pub rank_long : length keys ≤ length columns.rank
+    pub count_long : length keys ≤ length columns.count
+    pub leader_long : length keys ≤ length columns.leader
     pub tag_right : (i : ℕ) → i < length keys → is_tag (get_or tags i 0) ≡ true
-    pub rank_small : (i : ℕ) → i < length keys → get_or ranks i 0 < column_limit
-    pub count_small : (i : ℕ) → i < length keys → get_or counts i 0 < column_limit
-    pub leader_within : (i : ℕ) → i < length keys → get_or leaders i 0 ≤ length keys
+    pub rank_small : (i : ℕ) → i < length keys → get_or columns.rank i 0 < column_limit
+    pub count_small : (i : ℕ) → i < length keys → get_or columns.count i 0 < column_limit
+    pub leader_within : (i : ℕ) → i < length keys → get_or columns.leader i 0 ≤ length keys

@@ -1,13 +1,14 @@
 -- A turn of the loop that hands leaders down, in the code's terms. Assumes nothing.
 use mathlib.Core.List.{List, ◌++◌}
 use mathlib.Core.Logic.{◌≢◌}
-use mathlib.Core.Path.{◌≡◌, refl, sym, ap, ◌∙◌, subst}
-use Prim.Native.Nat.{ℕ, zero, suc, ◌+◌, ◌-◌, ◌<◌, ◌≤◌}
+use mathlib.Core.Path.{◌≡◌, sym, ap, ◌∙◌, subst}
+use Prim.Native.Nat.{ℕ, zero, suc, ◌+◌, ◌≤◌}
 use native.Mathlib.Numerals.{add-one}
 use native.Mathlib.Omega.{arith}
 use lib.ListN.{length, get_or, set, take, drop}
 use lib.Seq.{take_all, length-take-le}
-use borrow.Author.Tests.{lt-ltb, le-ltb}
+use Rattle.std.proofs.lemmas.List.{take-take}
+use Rattle.treap_columns.specs.Positions.{InOrder}
 use Rattle.treap_columns.specs.Columns.{rank_column, leader_column, Ready}
 use Rattle.treap_leaders.specs.Steps.{handed_down}
 use Rattle.treap_columns.proofs.Filled.{Kept, kept_store, column_at}
@@ -16,32 +17,27 @@ use Rattle.treap_leaders.proofs.Leading.{Led, rank_of, led_turn, led_first, led_
 
 -- ---- one store, as the code makes it
 module _ (parent : ℕ) (rank leader : List ℕ) where
-  pub handed_parent : (child : ℕ) → child ≢ 0 → get_or rank (child - 1) 0 < get_or rank parent 0
-      → set leader (child - 1) (parent + 1) ≡ handed_down parent child rank leader
-  handed_parent zero some higher = absurd (some refl)
-  handed_parent (suc k) some higher =
-      let index : suc k - 1 ≡ k = omega arith in
-      let here : get_or rank k 0 < get_or rank parent 0 = subst (λ (i : ℕ). get_or rank i 0 < get_or rank parent 0) index higher in
-      rw (index, add-one, lt-ltb (get_or rank k 0) (get_or rank parent 0) here)
-
-  pub handed_leader : (child : ℕ) → child ≢ 0 → get_or rank parent 0 ≤ get_or rank (child - 1) 0
-      → set leader (child - 1) (get_or leader parent 0) ≡ handed_down parent child rank leader
-  handed_leader zero some level = absurd (some refl)
-  handed_leader (suc k) some level =
-      let index : suc k - 1 ≡ k = omega arith in
-      let here : get_or rank parent 0 ≤ get_or rank k 0 = subst (λ (i : ℕ). get_or rank parent 0 ≤ get_or rank i 0) index level in
-      rw (index, le-ltb (get_or rank k 0) (get_or rank parent 0) here)
-
   pub handed_kept : (n : ℕ) (before : List ℕ) (child : ℕ) → child ≤ n → Kept n before leader → Kept n before (handed_down parent child rank leader)
   handed_kept n before zero low kept = kept
   handed_kept n before (suc k) low kept = kept_store n before leader k _ low kept
 
 -- ---- no position
-pub none_led : (α : ℕ) (weights : List ℕ) (n : ℕ) (column : List ℕ) → n ≡ 0 → column ≡ leader_column α weights n ++ drop n column
-none_led α weights zero column e = refl
-none_led α weights (suc n) column e = absurd (omega arith)
-
 module _ (weights : List ℕ) (α n : ℕ) (order left right : List ℕ) (ready : Ready weights α n order left right) where
+  -- ---- what is ready with an order is ready with its first n entries
+  pub ready_taken : Ready weights α n (take n order) left right
+  ready_taken = record {
+    wide = ready.wide;
+    narrow = ready.narrow;
+    whole = ready.whole;
+    few = ready.few;
+    order_room = omega (arith, length-take-le n order ready.order_room);
+    left_room = ready.left_room;
+    right_room = ready.right_room;
+    in_order = subst (InOrder weights) (sym (take-take n n order (omega arith))) ready.in_order;
+    lefts = ready.lefts;
+    rights = ready.rights;
+  }
+
   -- ---- the first store
   pub led_at_first : (column : List ℕ) → n ≢ 0 → n ≤ length column → Led α weights (take 0 (take n order)) (set column (get_or order 0 0) 0)
   led_at_first column some room =

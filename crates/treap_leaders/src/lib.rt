@@ -23,7 +23,7 @@ fn hand_down(parent: usize, child: u16, rank: &[u16], leader: &mut [u16])
 }
 
 // Write at the start of `leader` the leader of each position, in the order of positions.
-// `weights` is named by the contract alone. Internal to this library's crates.
+// `weights` is named by the contract alone, and `n` goes beside lists that the callers hold whole. Internal to this library's crates.
 pub fn leaders(
     weights: &[u64],
     alpha: u64,
@@ -44,8 +44,8 @@ pub fn leaders(
     }
     let root = order[0] as usize;
     leader[root] = 0;
-    for j in 0..n {
-        let parent = order[j] as usize;
+    for entry in &order[..n] {
+        let parent = *entry as usize;
         hand_down(parent, left[parent], rank, leader);
         hand_down(parent, right[parent], rank, leader);
     }

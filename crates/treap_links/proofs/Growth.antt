@@ -16,7 +16,7 @@ use Rattle.treap_links.specs.Links.{between, left_links, right_links}
 use Rattle.treap_links.specs.Nearest.{Nearest}
 use Rattle.treap_links.proofs.Segments.{between_length, between_rising, between_split, top_between}
 use Rattle.treap_links.proofs.Untouched.{overwrite_again, nearest_kept}
-use Rattle.treap_links.proofs.OneColumn.{Becomes, becomes_start, becomes_end, before_written, after_written}
+use Rattle.treap_links.proofs.OneColumn.{Becomes, becomes_end, before_written, after_written}
 
 module _ (ws : List ℕ) where
   -- the treap of a part at the position of its root
@@ -70,19 +70,6 @@ module _ (ws : List ℕ) where
     pub near : Nearest ws (length ws) a b left right
 
   module _ (lo hi : ℕ) (left₀ right₀ : List ℕ) where
-    pub grown_start : (root : ℕ) → lo ≤ hi → root ≡ top (weight_at ws) (between lo hi) → Nearest ws (length ws) lo hi left₀ right₀
-        → Grown lo hi left₀ right₀ left₀ right₀ lo hi root
-    grown_start root h e n =
-        record {
-          from = omega arith;
-          upto = omega arith;
-          part = h;
-          root = e;
-          lefts = becomes_start (left_links ws) left_length lo hi left₀;
-          rights = becomes_start (right_links ws) right_length lo hi right₀;
-          near = n;
-        }
-
     -- the root of a part that is not empty
     pub root_index : {left right : List ℕ} {a b at : ℕ} → Grown lo hi left₀ right₀ left right a b at → a < b → (a < at) × (at ≤ b)
     root_index {a = a} {b = b} g h =

@@ -25,10 +25,6 @@ module _ (ws : List ℕ) (lo hi : ℕ) where
     pub first : (x : ℕ) → lo ≤ x → x < a → Over ws a x
     pub last : (x : ℕ) → b ≤ x → x < hi → Over ws (b - 1) x
 
-  pub narrowed_start : lo < hi → Narrowed lo hi
-  narrowed_start some =
-      record { from = omega arith; below = some; above = some; upto = omega arith; first = λ x h k. absurd (omega arith); last = λ x h k. absurd (omega arith) }
-
   module _ (a b : ℕ) (state : Narrowed a b) where
     -- the ends do not pass each other: each would outrank the other
     narrowed_apart : a < b

@@ -62,9 +62,3 @@ module _ (ws : List ℕ) where
             left_rest = drop-set-lt (length ws) left i b inside ∙ state.left_rest;
             right_rest = drop-set-lt (length ws) right' i (length ws) inside ∙ f ∙ state.right_rest;
           }
-
-      pub passing_end : length ws ≤ i → Nearest ws (length ws) 0 (length ws) left right
-      passing_end all =
-          let u = state.upto in
-          let whole : i ≡ length ws = omega arith in
-          subst (λ (k : ℕ). Nearest ws k 0 k left right) whole state.found

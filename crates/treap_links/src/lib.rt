@@ -15,7 +15,7 @@ fn overtake(weights: &[u64], i: usize, left: &[u16], right: &mut [u16]) -> usize
     requires i_in_bounds { (i < length weights.now) × (i ≤ length left.now) × (length weights.now ≤ length right.old) × (length weights.now ≤ most_positions) }
     requires nearest { Nearest weights.now i 0 i left.now right.old }
     ensures nearest_before { NearestBefore weights.now i result }
-    ensures nearest_2 { Nearest weights.now (suc i) 0 i left.now right.new }
+    ensures nearest_with_i { Nearest weights.now (suc i) 0 i left.now right.new }
     ensures right_unchanged { drop (length weights.now) right.new ≡ drop (length weights.now) right.old }
 {
     let mut b = i;
@@ -35,12 +35,10 @@ fn nearest(weights: &[u64], left: &mut [u16], right: &mut [u16])
     ensures right_unchanged { drop (length weights.now) right.new ≡ drop (length weights.now) right.old }
 {
     let n = weights.len();
-    let mut i: usize = 0;
-    while i < n {
+    for i in 0..n {
         let b = overtake(weights, i, left, right);
         left[i] = b as u16;
         right[i] = n as u16;
-        i += 1;
     }
 }
 

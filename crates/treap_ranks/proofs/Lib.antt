@@ -1,4 +1,3 @@
 -- Lemmas of the ranks over plain lists and trees.
-pub mod Raising
 pub mod Ranking
 pub mod RankTurn

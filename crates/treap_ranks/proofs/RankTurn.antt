@@ -4,23 +4,15 @@ use mathlib.Core.Logic.{◌⊎◌, ◌≢◌, inl, inr, ⊎_elim}
 use mathlib.Core.Path.{◌≡◌, sym, ap, ap₂, ◌∙◌, subst}
 use Prim.Native.Nat.{ℕ, suc, ◌-◌, ◌<◌, ◌≤◌}
 use native.Mathlib.Omega.{arith}
-use lib.ListN.{length, get_or, set, take, drop, drop_of_length-le}
-use lib.Seq.{length-take-le}
+use lib.ListN.{length, get_or, set, take, drop}
 use Rattle.treap_structure.proofs.Fold.{Standing, raise}
 use Rattle.treap_columns.specs.Columns.{rank_column, count_column, Ready}
 use Rattle.treap_ranks.specs.Steps.{entry_at, Small, raise_root}
 use Rattle.treap_columns.proofs.Reading.{Turn, turn_at, place}
 use Rattle.treap_columns.proofs.PositionTree.{left_child, right_child, ChildAt}
 use Rattle.treap_ranks.proofs.Ranking.{Ranked, folded, folded_small, child_read, root_standing_lem, other_standing}
-use Rattle.treap_ranks.proofs.Ranking.{ranked_none, ranked_store, ranked_all}
+use Rattle.treap_ranks.proofs.Ranking.{ranked_store, ranked_all}
 use Rattle.treap_columns.proofs.Filled.{Kept}
-
--- Before the first turn no position is ranked.
-pub ranked_at_first : (weights : List ℕ) (α n : ℕ) (order left right rank count : List ℕ) → Ready weights α n order left right
-    → Ranked α weights (drop n (take n order)) rank count
-ranked_at_first weights α n order left right rank count ready =
-    let whole : length (take n order) ≤ n = omega (arith, length-take-le n order ready.order_room) in
-    subst (λ (rest : List ℕ). Ranked α weights rest rank count) (sym (drop_of_length-le (take n order) whole)) (ranked_none α weights rank count)
 
 -- The columns have this rank and this count for a position.
 abbrev pub Has : List ℕ → List ℕ → ℕ → Standing → Type 0

@@ -1,22 +1,16 @@
 // The columns of ranks and counts, each position's from those of its children, the outranked positions first.
 #![tactic(auto)]
 
-ghost use Rattle.std.specs.Prelude.{◌≡◌, ◌++◌, ◌≤◌, max, length, drop};
-ghost use Rattle.treap_structure.proofs.Fold.{raise as raiseStanding, count_at};
+ghost use Rattle.std.specs.Prelude.{◌≡◌, ◌++◌, ◌≤◌, length, drop};
+ghost use Rattle.treap_structure.proofs.Fold.{raise as raise_standing, count_at};
 ghost use Rattle.treap_columns.specs.Columns.{rank_column, count_column, Ready};
 ghost use Rattle.treap_ranks.specs.Steps.{entry_at, standing_of, Small, raise_root};
 
 // The rank and the count of a position; zeros for none.
-#[derive(Drop)]
+#[derive(Clone, Copy, Default)]
 struct Standing {
     rank: u16,
     count: u16,
-}
-
-fn larger(a: u16, b: u16) -> u16
-    ensures { result ≡ max a b }
-{
-    if a < b { b } else { a }
 }
 
 // The standing that the columns have for a position.
@@ -25,7 +19,7 @@ fn standing_at(position: u16, rank: &[u16], count: &[u16]) -> Standing
     ensures { (result.rank ≡ entry_at rank.now position) × (result.count ≡ entry_at count.now position) }
 {
     if position == 0 {
-        return Standing { rank: 0, count: 0 };
+        return Standing::default();
     }
     let index = (position - 1) as usize;
     Standing {
@@ -44,9 +38,9 @@ fn count_at(rank: u16, child: Standing) -> u16
 // The standing of a position from those of its children: the fold.
 fn raise(alpha: u64, left: Standing, right: Standing) -> Standing
     requires { Small (standing_of left) × Small (standing_of right) }
-    ensures { standing_of result ≡ raiseStanding alpha (standing_of left) (standing_of right) }
+    ensures { standing_of result ≡ raise_standing alpha (standing_of left) (standing_of right) }
 {
-    let rank = larger(left.rank, right.rank);
+    let rank = left.rank.max(right.rank);
     let count = 1 + count_at(rank, left) + count_at(rank, right);
     if count as u64 >= alpha {
         Standing {
@@ -54,10 +48,7 @@ fn raise(alpha: u64, left: Standing, right: Standing) -> Standing
             count: 1,
         }
     } else {
-        Standing {
-            rank: rank,
-            count: count,
-        }
+        Standing { rank, count }
     }
 }
 
@@ -68,7 +59,7 @@ fn raise_root(n: usize, left: Standing, right: Standing) -> Standing
 {
     if 1 < n {
         Standing {
-            rank: larger(left.rank, right.rank) + 1,
+            rank: left.rank.max(right.rank) + 1,
             count: 1,
         }
     } else {
@@ -77,7 +68,7 @@ fn raise_root(n: usize, left: Standing, right: Standing) -> Standing
 }
 
 // Write at the start of `rank` and `count` the rank and count of each position, in the order of positions.
-// `weights` is named by the contract alone. Internal to this library's crates.
+// `weights` is named by the contract alone, and `n` goes beside lists that the callers hold whole. Internal to this library's crates.
 pub fn ranks(
     weights: &[u64],
     alpha: u64,
@@ -93,9 +84,7 @@ pub fn ranks(
     ensures ranks { rank.new ≡ rank_column alpha weights.now n ++ drop n rank.old }
     ensures counts { count.new ≡ count_column alpha weights.now n ++ drop n count.old }
 {
-    let mut j = n;
-    while 0 < j {
-        j -= 1;
+    for j in (0..n).rev() {
         let index = order[j] as usize;
         let below = standing_at(left[index], rank, count);
         let above = standing_at(right[index], rank, count);

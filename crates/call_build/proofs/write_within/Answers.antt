@@ -25,7 +25,7 @@ module _ (start : Start) where
   corrections = start.args.corrections.now
 
   told : (length lengths ≡ length keys) × (length corrections ≡ length lengths) × (every is_measure (measures_beside lengths corrections) ≡ true)
-  told = measured_says (length keys) lengths corrections start.requires.corrections_value
+  told = measured_says (length keys) lengths corrections start.requires.measured
 
 -- once the tags are put: their first are those of the measures
 module _ (p : After-put_tags) where
@@ -38,7 +38,7 @@ module _ (p : After-put_tags) where
 pub write-requires-clause-keys : goal.write-requires-clause-keys
 write-requires-clause-keys c =
     let pre = c.requires in
-    let (some, within, long, most, room, constants) = pre.many_nonzero in (pre.keys, subst (Beside (keys (goal.at.write-requires-clause-keys c).Start)) (sym (first (goal.at.write-requires-clause-keys c).After-put_tags)) (fit (goal.at.write-requires-clause-keys c).After-put_tags))
+    (pre.keys, subst (Beside (keys (goal.at.write-requires-clause-keys c).Start)) (sym (first (goal.at.write-requires-clause-keys c).After-put_tags)) (fit (goal.at.write-requires-clause-keys c).After-put_tags))
 
 pub returns : goal.returns
 returns c =

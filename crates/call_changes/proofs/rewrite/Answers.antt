@@ -32,14 +32,14 @@ pub write-requires-clause-keys : goal.write-requires-clause-keys
 unfolding contents_of
 write-requires-clause-keys c =
     let start = (goal.at.write-requires-clause-keys c).Start in
-    (subst (Keys _) (keys_are start) (valid_keys c.args.many (target start) c.requires.many_nonzero.1 c.requires.valid.0), c.requires.valid.1)
+    (subst (Keys _) (keys_are start) (valid_keys c.args.many (target start) c.requires.sized.1 c.requires.valid.0), c.requires.valid.1)
 
-pub write-requires-clause-many_nonzero : goal.write-requires-clause-many_nonzero
+pub write-requires-clause-many_in_range : goal.write-requires-clause-many_in_range
 unfolding contents_of
-write-requires-clause-many_nonzero c =
-    let start = (goal.at.write-requires-clause-many_nonzero c).Start in
-    let (some, most, long, fits, more, constants) = c.requires.many_nonzero in
-    (some, subst (λ (ks : List ℕ). length ks ≤ c.args.many) (keys_are start) c.requires.valid.0.keys_fit, long, most, constants)
+write-requires-clause-many_in_range c =
+    let start = (goal.at.write-requires-clause-many_in_range c).Start in
+    let (some, most, long, fits, more) = c.requires.sized in
+    (some, subst (λ (ks : List ℕ). length ks ≤ c.args.many) (keys_are start) c.requires.valid.0.keys_fit, long, most)
 
 pub returns-clause-known : goal.returns-clause-known
 unfolding contents_of
@@ -48,8 +48,8 @@ returns-clause-known c =
     let args = c.args in
     let pre = c.requires in
     let done = c.write in
-    let same_size : length (keys_in (target start)) ≡ args.n = ap length (keys_are start) ∙ length-take-le args.n args.keys.now pre.many_nonzero.3 in
-    known_again args.many done.new.table args.keys.now args.tags.now (target start) pre.many_nonzero.0 pre.many_nonzero.1 pre.valid.0 done.ensures
+    let same_size : length (keys_in (target start)) ≡ args.n = ap length (keys_are start) ∙ length-take-le args.n args.keys.now pre.sized.3 in
+    known_again args.many done.new.table args.keys.now args.tags.now (target start) pre.sized.0 pre.sized.1 pre.valid.0 done.ensures
     (ap (λ (n : ℕ). take n args.keys.now) same_size ∙ sym (keys_are start))
     (ap (λ (n : ℕ). take n args.tags.now) same_size ∙ sym (tagged_tags (kept_keys start) (kept_tags start) pre.valid.1))
 

@@ -10,7 +10,7 @@ use Rattle.measure.specs.Measure.{Measure, is_measure}
 use Rattle.measure.specs.Tag.{tag_of, measure_at, is_tag}
 use Rattle.measure.proofs.Corrections.{handed_on}
 use Rattle.measure.proofs.Tags.{measure_of_tag, measure_tags}
-use Rattle.table_limits.proofs.Lengths.{slots_for_some}
+use Rattle.table_limits.proofs.Lengths.{slots_sized}
 use Rattle.call_meaning.specs.Calls.{insert_reply, insert_after}
 use Rattle.call_insert.proofs.Inserting.{refused_length, refused_zero, refused_measure}
 use Rattle.call_insert.proofs.insert.Goals as goal
@@ -34,57 +34,41 @@ tagged : (p : After-tag_of-tag) → measure_at p.tag_of-tag.result ≡ measure (
 tagged p =
     ap measure_at (p.tag_of-tag.ensures ∙ ap tag_of (same (goal.at.After-tag_of-tag p).Start)) ∙ measure_of_tag (measure (goal.at.After-tag_of-tag p).Start) (is_right (goal.at.After-tag_of-tag p).Else-not-is_measure)
 
-pub returns-then-many-eq0-clause-result_value : goal.returns-then-many-eq0-clause-result_value
-returns-then-many-eq0-clause-result_value c =
-    (refused_length c.args.table.now c.args.key (measure (goal.at.returns-then-many-eq0-clause-result_value c).Start) (sym c.slots_for-many.ensures ∙ c.if-many-eq0.true)).0
+pub returns-in_default : goal.returns-in_default
+returns-in_default c =
+    let met = refused_length c.args.table.now c.args.key (measure (goal.at.returns-in_default c).Start) (sym c.slots_for.ensures ∙ c.in_default.is) in
+    record { result_value = met.0; table_after = met.1 }
 
-pub returns-then-many-eq0-clause-table_after : goal.returns-then-many-eq0-clause-table_after
-returns-then-many-eq0-clause-table_after c =
-    (refused_length c.args.table.now c.args.key (measure (goal.at.returns-then-many-eq0-clause-table_after c).Start) (sym c.slots_for-many.ensures ∙ c.if-many-eq0.true)).1
+pub returns-then-key-eq0 : goal.returns-then-key-eq0
+returns-then-key-eq0 c =
+    let met =
+    refused_zero c.args.table.now c.args.key (measure (goal.at.returns-then-key-eq0 c).Start) _ (sym c.slots_for.ensures ∙ c.in-Some.is) c.if-key-eq0.true
+    in
+    record { result_value = met.0; table_after = met.1 }
 
-pub returns-then-key-eq0-clause-result_value : goal.returns-then-key-eq0-clause-result_value
-returns-then-key-eq0-clause-result_value c =
-    let here = c.slots_for-many.ensures in (refused_zero c.args.table.now c.args.key (measure (goal.at.returns-then-key-eq0-clause-result_value c).Start) (λ e. c.if-many-eq0.false (here ∙ e)) c.if-key-eq0.true).0
-
-pub returns-then-key-eq0-clause-table_after : goal.returns-then-key-eq0-clause-table_after
-returns-then-key-eq0-clause-table_after c =
-    let here = c.slots_for-many.ensures in (refused_zero c.args.table.now c.args.key (measure (goal.at.returns-then-key-eq0-clause-table_after c).Start) (λ e. c.if-many-eq0.false (here ∙ e)) c.if-key-eq0.true).1
-
-pub returns-then-not-is_measure-clause-result_value : goal.returns-then-not-is_measure-clause-result_value
-returns-then-not-is_measure-clause-result_value c =
-    let here = c.slots_for-many.ensures in
-    let tested = c.is_measure in (refused_measure c.args.table.now c.args.key (measure (goal.at.returns-then-not-is_measure-clause-result_value c).Start) (λ e. c.if-many-eq0.false (here ∙ e)) c.if-key-eq0.false
-    (ap is_measure (sym (same (goal.at.returns-then-not-is_measure-clause-result_value c).Start)) ∙ sym tested.ensures ∙ c.if-not-is_measure.true)).0
-
-pub returns-then-not-is_measure-clause-table_after : goal.returns-then-not-is_measure-clause-table_after
-returns-then-not-is_measure-clause-table_after c =
-    let here = c.slots_for-many.ensures in
-    let tested = c.is_measure in (refused_measure c.args.table.now c.args.key (measure (goal.at.returns-then-not-is_measure-clause-table_after c).Start) (λ e. c.if-many-eq0.false (here ∙ e)) c.if-key-eq0.false
-    (ap is_measure (sym (same (goal.at.returns-then-not-is_measure-clause-table_after c).Start)) ∙ sym tested.ensures ∙ c.if-not-is_measure.true)).1
+pub returns-then-not-is_measure : goal.returns-then-not-is_measure
+returns-then-not-is_measure c =
+    let start = (goal.at.returns-then-not-is_measure c).Start in
+    let wrong = ap is_measure (sym (same start)) ∙ sym c.is_measure.ensures ∙ c.if-not-is_measure.true in
+    let met = refused_measure c.args.table.now c.args.key (measure start) _ (sym c.slots_for.ensures ∙ c.in-Some.is) c.if-key-eq0.false wrong in
+    record { result_value = met.0; table_after = met.1 }
 
 pub insert_with_room-requires : goal.insert_with_room-requires
 insert_with_room-requires c =
-    let here = c.slots_for-many.ensures in
-    let d = c.if-many-eq0.false in
-    let right = slots_for_some (length c.args.table.now) (λ e. d (here ∙ e)) in
+    let at = goal.at.insert_with_room-requires c in
+    let right = slots_sized (length c.args.table.now) _ (sym c.slots_for.ensures ∙ c.in-Some.is) in
     let positive = c.if-key-eq0.false in (
+      omega (arith, right.some),
+      right.within,
+      right.long,
       omega arith,
-      omega (arith, right.within, here),
-      omega (arith, right.long, here),
-      omega arith,
-      subst (λ (t : ℕ). is_tag t ≡ true) (sym (c.tag_of-tag.ensures ∙ ap tag_of (same (goal.at.insert_with_room-requires c).Start))) (measure_tags (measure (goal.at.insert_with_room-requires c).Start) (is_right (goal.at.insert_with_room-requires c).Else-not-is_measure)),
+      subst (λ (t : ℕ). is_tag t ≡ true) (sym (c.tag_of-tag.ensures ∙ ap tag_of (same at.Start))) (measure_tags (measure at.Start) (is_right at.Else-not-is_measure)),
     )
 
-pub returns-clause-result_value : goal.returns-clause-result_value
-returns-clause-result_value c =
-    let words = c.args.table.now in
-    let key = c.args.key in
-    let done = c.insert_with_room in
-    let its_own = tagged (goal.at.returns-clause-result_value c).After-tag_of-tag in done.ensures.result_value ∙ ap (insert_reply words key) its_own
-
-pub returns-clause-table_after : goal.returns-clause-table_after
-returns-clause-table_after c =
-    let words = c.args.table.now in
-    let key = c.args.key in
-    let done = c.insert_with_room in
-    let its_own = tagged (goal.at.returns-clause-table_after c).After-tag_of-tag in done.ensures.table_after ∙ ap (insert_after words key) its_own
+pub returns : goal.returns
+returns c =
+    let its_own = tagged (goal.at.returns c).After-tag_of-tag in
+    record {
+      result_value = c.insert_with_room.ensures.result_value ∙ ap (insert_reply c.args.table.now c.args.key) its_own;
+      table_after = c.insert_with_room.ensures.table_after ∙ ap (insert_after c.args.table.now c.args.key) its_own;
+    }

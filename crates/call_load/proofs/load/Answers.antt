@@ -1,45 +1,50 @@
 -- `call_load::load` meets its contract. Assumes nothing.
 use mathlib.Core.Path.{sym, ap, ◌∙◌}
+use Rattle.std.specs.Prelude.{Err}
+use Rattle.std.proofs.lemmas.Result.{err_from_is_err_and}
 use Rattle.table.specs.Contents.{Contents}
-use Rattle.call_replies.specs.Replies.{set_up_of}
-use Rattle.call_load.proofs.Loads.{Begun, refused, begun, done_so}
+use Rattle.call_replies.specs.declared.Refusal.{Refusal}
+use Rattle.call_replies.specs.Replies.{done_of}
+use Rattle.call_load.proofs.Loads.{Begun, refused_length, refused, begun, done_so}
 use Rattle.call_load.proofs.load.Goals as goal
-use Rattle.call_load.proofs.load.Goals.{In_default}
+use Rattle.call_load.proofs.load.Goals.{In_ok-set_up}
 
-begun-at : (p : In_default)
-    → Begun p.args.table.now p.args.order p.args.seed p.args.count p.slots_for-many.result
-    p.set_up-begun.new.table
-begun-at p =
+begun_at : (p : In_ok-set_up) → Begun p.args.table.now p.args.order p.args.seed p.args.count p.in-Some.many p.set_up.new.table
+begun_at p =
     let args = p.args in
-    begun args.table.now args.order args.seed args.count (sym (ap set_up_of p.in_default.is) ∙ p.set_up-begun.ensures.result_value)
-    p.slots_for-many.result p.slots_for-many.ensures p.set_up-begun.new.table p.set_up-begun.ensures.table_after
+    begun args.table.now args.order args.seed args.count (sym (ap done_of p.in_ok-set_up.was) ∙ p.set_up.ensures.result_value)
+    p.in-Some.many (sym p.slots_for.ensures ∙ p.in-Some.is) p.set_up.new.table p.set_up.ensures.table_after
 
-pub returns-in-Refused-clause-result_value : goal.returns-in-Refused-clause-result_value
-returns-in-Refused-clause-result_value c =
+pub returns-in_default : goal.returns-in_default
+returns-in_default c =
     let args = c.args in
-    (refused args.table.now args.order args.seed args.count c.in-Refused.reason
-    (sym (ap set_up_of c.in-Refused.is) ∙ c.set_up-begun.ensures.result_value) c.set_up-begun.new.table c.set_up-begun.ensures.table_after).0
+    let met = refused_length args.table.now args.order args.seed args.count (sym c.slots_for.ensures ∙ c.in_default.is) in
+    record { result_value = met.0; table_after = met.1 }
 
-pub returns-in-Refused-clause-table_after : goal.returns-in-Refused-clause-table_after
-returns-in-Refused-clause-table_after c =
+pub returns-in_err-set_up : goal.returns-in_err-set_up
+returns-in_err-set_up c =
     let args = c.args in
-    (refused args.table.now args.order args.seed args.count c.in-Refused.reason
-    (sym (ap set_up_of c.in-Refused.is) ∙ c.set_up-begun.ensures.result_value) c.set_up-begun.new.table c.set_up-begun.ensures.table_after).1
+    let handed_on = err_from_is_err_and c.from_residual.result c.from_residual.ensures.1 in
+    let same = handed_on.1 ∙ ap (λ (r : Refusal). Err r) handed_on.2 in
+    let met =
+    refused args.table.now args.order args.seed args.count _ (sym (ap done_of c.in_err-set_up.was) ∙ c.set_up.ensures.result_value) c.set_up.new.table
+    c.set_up.ensures.table_after
+    in
+    record { result_value = ap done_of same ∙ met.0; table_after = met.1 }
 
-pub operate_within-requires-clause-many_nonzero : goal.operate_within-requires-clause-many_nonzero
-operate_within-requires-clause-many_nonzero c =
-    let b = begun-at (goal.at.operate_within-requires-clause-many_nonzero c).In_default in (b.some, b.most, b.long, b.sound)
+pub operate_within-requires-clause-sized : goal.operate_within-requires-clause-sized
+operate_within-requires-clause-sized c =
+    let b = begun_at (goal.at.operate_within-requires-clause-sized c).In_ok-set_up in (b.some, b.most, b.long, b.sound)
 
-pub operate_within-requires-clause-table_value : goal.operate_within-requires-clause-table_value
-operate_within-requires-clause-table_value c =
-    let b = begun-at (goal.at.operate_within-requires-clause-table_value c).In_default in ap (λ (d : Contents). d.entries) b.holds
+pub operate_within-requires-clause-blank : goal.operate_within-requires-clause-blank
+operate_within-requires-clause-blank c =
+    let b = begun_at (goal.at.operate_within-requires-clause-blank c).In_ok-set_up in ap (λ (d : Contents). d.entries) b.holds
 
-pub returns-clause-result_value : goal.returns-clause-result_value
-returns-clause-result_value c =
-    let args = c.args in (done_so args.table.now args.order args.seed args.count c.slots_for-many.result c.set_up-begun.new.table (begun-at (goal.at.returns-clause-result_value c).In_default)
-    c.operate_within.new.table c.operate_within.ensures).0
-
-pub returns-clause-table_after : goal.returns-clause-table_after
-returns-clause-table_after c =
-    let args = c.args in (done_so args.table.now args.order args.seed args.count c.slots_for-many.result c.set_up-begun.new.table (begun-at (goal.at.returns-clause-table_after c).In_default)
-    c.operate_within.new.table c.operate_within.ensures).1
+pub returns : goal.returns
+returns c =
+    let args = c.args in
+    let met =
+    done_so args.table.now args.order args.seed args.count c.in-Some.many c.set_up.new.table (begun_at (goal.at.returns c).In_ok-set_up)
+    c.operate_within.new.table c.operate_within.ensures
+    in
+    record { result_value = met.0; table_after = met.1 }

@@ -1,86 +1,65 @@
 -- `call_load::operate` meets its contract. Assumes nothing.
-use mathlib.Core.List.{List}
-use mathlib.Core.Path.{◌≡◌, refl, sym, ap, ◌∙◌}
-use Prim.Native.Nat.{ℕ, ◌<◌}
+use mathlib.Core.Path.{refl, sym, ap, ◌∙◌, subst}
+use Prim.Native.Nat.{◌<◌}
 use native.Mathlib.Omega.{arith}
-use Rattle.lists.specs.Lists.{lies, Rising}
+use Rattle.lists.specs.Lists.{lies}
 use Rattle.measure.specs.Tag.{is_tag, is_stored, length_in, stored_in}
 use Rattle.measure.proofs.Tags.{no_tag}
 use Rattle.table.specs.Contents.{keys_in, IsKey}
 use Rattle.table.specs.Table.{contents_of}
 use Rattle.table.proofs.Soundness.{WordSized}
-use Rattle.call_sets.specs.Load.{Operation, looking_up, chosen, done}
+use Rattle.call_sets.specs.Load.{done}
 use Rattle.call_meaning.specs.Calls.{insert_after}
-use Rattle.call_changes.specs.Known.{Known}
 use Rattle.call_changes.specs.Done.{IsLoadKey, with_done}
 use Rattle.call_changes.proofs.Knowing.{facts}
-use Rattle.call_load.proofs.Choosing.{key_at, chooses_insert, chooses_delete, chooses_lookup}
+use Rattle.call_load.specs.declared.Operation.{Operation}
+use Rattle.call_load.specs.Choice.{operation_of, key_of}
 use Rattle.call_load.proofs.Operating.{room_left, insert_operates, delete_operates}
 use Rattle.call_load.proofs.operate.Goals as goal
-use Rattle.call_load.proofs.operate.Goals.{After-slice_known-3-1}
+use Rattle.call_load.proofs.operate.Goals.{In-Delete, In-Insert}
 
-abbrev many : After-slice_known-3-1 → ℕ
-many p = p.args.many
+-- the key that is inserted, and the one that is deleted, is a load's
+inserted : (p : In-Insert) → IsLoadKey p.in-Insert.key
+inserted p = subst (λ (o : Operation). IsLoadKey (key_of o)) p.in-Insert.is p.requires.chosen_key
 
-abbrev key : After-slice_known-3-1 → ℕ
-key p = key_at p.args.state
+deleted : (p : In-Delete) → IsLoadKey p.in-Delete.key
+deleted p = subst (λ (o : Operation). IsLoadKey (key_of o)) p.in-Delete.is p.requires.chosen_key
 
-abbrev words : After-slice_known-3-1 → List ℕ
-words p = p.args.table.now
+-- the table's words are numbers of 64 bits
+before_insert : (p : In-Insert) → WordSized p.args.table.now
+before_insert p i = omega (arith, p.slice_known-1.given i)
 
-abbrev listed : After-slice_known-3-1 → List ℕ
-listed p = p.args.keys.now
+before_delete : (p : In-Delete) → WordSized p.args.table.now
+before_delete p i = omega (arith, p.slice_known-1.given i)
 
-abbrev tags : After-slice_known-3-1 → List ℕ
-tags p = p.args.tags.now
-
-known : (p : After-slice_known-3-1) → Known (many p) (words p) (listed p) (tags p)
-known p = p.requires.known
-
-word-sized : (p : After-slice_known-3-1) → WordSized (words p)
-word-sized p i = omega (arith, p.type_inv.table i)
-
-load-key : (p : After-slice_known-3-1) → IsLoadKey (key p)
-load-key p = (omega arith, omega arith)
-
-is_key : (p : After-slice_known-3-1) → IsKey (key p)
-is_key p = (omega arith, omega arith)
-
-rises : (p : After-slice_known-3-1) → Rising (keys_in (contents_of (many p) (words p)))
-rises p = (facts (many p) (words p) (listed p) (tags p) (known p) (word-sized p)).valid.keys_rise
-
--- ---- the table after the operation
-abbrev state : After-slice_known-3-1 → ℕ
-state p = p.args.state
-
--- What the contract says of the table after it.
-abbrev Operated : After-slice_known-3-1 → List ℕ → Type 0
-Operated p after = contents_of (many p) after ≡ with_done (many p) (chosen (state p)) (contents_of (many p) (words p))
-
-operated : (p : After-slice_known-3-1) {operation : Operation} {after named : List ℕ} → chosen (state p) ≡ operation → after ≡ named
-    → contents_of (many p) named ≡ with_done (many p) operation (contents_of (many p) (words p)) → Operated p after
-operated p {operation = o} chose e shows =
-    ap (contents_of (many p)) e ∙ shows ∙ ap (λ (d : Operation). with_done (many p) d (contents_of (many p) (words p))) (sym chose)
-
-looked : (p : After-slice_known-3-1) → chosen (state p) ≡ looking_up (key p) → Operated p (words p)
-unfolding done
-looked p chose = ap (λ (d : Operation). with_done (many p) d (contents_of (many p) (words p))) (sym chose)
-
-pub insert_known-requires-clause-le_key : goal.insert_known-requires-clause-le_key
+pub insert_known-requires-clause-insertable : goal.insert_known-requires-clause-insertable
 unfolding lies is_tag is_stored length_in stored_in
-insert_known-requires-clause-le_key c =
-    let few = room_left (key (goal.at.insert_known-requires-clause-le_key c).After-slice_known-3-1) (keys_in (contents_of (many (goal.at.insert_known-requires-clause-le_key c).After-slice_known-3-1) (words (goal.at.insert_known-requires-clause-le_key c).After-slice_known-3-1))) (load-key (goal.at.insert_known-requires-clause-le_key c).After-slice_known-3-1) c.requires.all.0 (rises (goal.at.insert_known-requires-clause-le_key c).After-slice_known-3-1) in (omega arith, refl, λ absent (room : _ < _). omega (arith, c.requires.all.1, few absent), λ absent (room : _ < _). omega (arith, c.requires.all.2, few absent), c.requires.all.3)
+insert_known-requires-clause-insertable c =
+    let p = (goal.at.insert_known-requires-clause-insertable c).In-Insert in
+    let ours = inserted p in
+    let rise = (facts c.args.many c.args.table.now c.args.keys.now c.args.tags.now c.requires.known (before_insert p)).valid.keys_rise in
+    let few = room_left c.in-Insert.key (keys_in (contents_of c.args.many c.args.table.now)) ours c.requires.load_keys.0 rise in
+    (ours.0, refl, λ absent (room : _ < _). omega (arith, c.requires.load_keys.1, few absent), λ absent (room : _ < _). omega (arith, c.requires.load_keys.2, few absent))
 
-pub returns-then-choice-lt-DELETE-clause-table_after : goal.returns-then-choice-lt-DELETE-clause-table_after
-returns-then-choice-lt-DELETE-clause-table_after c =
-    operated (goal.at.returns-then-choice-lt-DELETE-clause-table_after c).After-slice_known-3-1 (chooses_insert (state (goal.at.returns-then-choice-lt-DELETE-clause-table_after c).After-slice_known-3-1) (omega (arith, c.if-choice-lt-DELETE.true))) (c.insert_known.ensures.table_after ∙ ap (insert_after (words (goal.at.returns-then-choice-lt-DELETE-clause-table_after c).After-slice_known-3-1) (key (goal.at.returns-then-choice-lt-DELETE-clause-table_after c).After-slice_known-3-1)) no_tag)
-    (insert_operates (many (goal.at.returns-then-choice-lt-DELETE-clause-table_after c).After-slice_known-3-1) (words (goal.at.returns-then-choice-lt-DELETE-clause-table_after c).After-slice_known-3-1) (listed (goal.at.returns-then-choice-lt-DELETE-clause-table_after c).After-slice_known-3-1) (tags (goal.at.returns-then-choice-lt-DELETE-clause-table_after c).After-slice_known-3-1) (known (goal.at.returns-then-choice-lt-DELETE-clause-table_after c).After-slice_known-3-1) (word-sized (goal.at.returns-then-choice-lt-DELETE-clause-table_after c).After-slice_known-3-1) (key (goal.at.returns-then-choice-lt-DELETE-clause-table_after c).After-slice_known-3-1) (is_key (goal.at.returns-then-choice-lt-DELETE-clause-table_after c).After-slice_known-3-1))
+pub returns-in-Insert-clause-table_after : goal.returns-in-Insert-clause-table_after
+returns-in-Insert-clause-table_after c =
+    let args = c.args in
+    let p = (goal.at.returns-in-Insert-clause-table_after c).In-Insert in
+    let is_key : IsKey c.in-Insert.key = ((inserted p).0, omega (arith, (inserted p).1)) in
+    ap (contents_of args.many) (c.insert_known.ensures.table_after ∙ ap (insert_after args.table.now c.in-Insert.key) no_tag)
+    ∙ insert_operates args.many args.table.now args.keys.now args.tags.now c.requires.known (before_insert p) c.in-Insert.key is_key
+    ∙ ap (λ (o : Operation). with_done args.many (operation_of o) (contents_of args.many args.table.now)) (sym c.in-Insert.is)
 
-pub returns-then-choice-eq-DELETE-clause-table_after : goal.returns-then-choice-eq-DELETE-clause-table_after
-returns-then-choice-eq-DELETE-clause-table_after c =
-    let more = c.if-choice-lt-DELETE.false in operated (goal.at.returns-then-choice-eq-DELETE-clause-table_after c).After-slice_known-3-1 (chooses_delete (state (goal.at.returns-then-choice-eq-DELETE-clause-table_after c).After-slice_known-3-1) (omega arith) (omega (arith, c.if-choice-eq-DELETE.true))) c.delete_known.ensures.table_after
-    (delete_operates (many (goal.at.returns-then-choice-eq-DELETE-clause-table_after c).After-slice_known-3-1) (words (goal.at.returns-then-choice-eq-DELETE-clause-table_after c).After-slice_known-3-1) (listed (goal.at.returns-then-choice-eq-DELETE-clause-table_after c).After-slice_known-3-1) (tags (goal.at.returns-then-choice-eq-DELETE-clause-table_after c).After-slice_known-3-1) (known (goal.at.returns-then-choice-eq-DELETE-clause-table_after c).After-slice_known-3-1) (word-sized (goal.at.returns-then-choice-eq-DELETE-clause-table_after c).After-slice_known-3-1) (key (goal.at.returns-then-choice-eq-DELETE-clause-table_after c).After-slice_known-3-1) (is_key (goal.at.returns-then-choice-eq-DELETE-clause-table_after c).After-slice_known-3-1))
+pub returns-in-Delete-clause-table_after : goal.returns-in-Delete-clause-table_after
+returns-in-Delete-clause-table_after c =
+    let args = c.args in
+    let p = (goal.at.returns-in-Delete-clause-table_after c).In-Delete in
+    let is_key : IsKey c.in-Delete.key = ((deleted p).0, omega (arith, (deleted p).1)) in
+    ap (contents_of args.many) c.delete_known.ensures.table_after
+    ∙ delete_operates args.many args.table.now args.keys.now args.tags.now c.requires.known (before_delete p) c.in-Delete.key is_key
+    ∙ ap (λ (o : Operation). with_done args.many (operation_of o) (contents_of args.many args.table.now)) (sym c.in-Delete.is)
 
-pub returns-clause-table_after : goal.returns-clause-table_after
-returns-clause-table_after c =
-    let more = c.if-choice-lt-DELETE.false in looked (goal.at.returns-clause-table_after c).After-slice_known-3-1 (chooses_lookup (state (goal.at.returns-clause-table_after c).After-slice_known-3-1) (omega arith) c.if-choice-eq-DELETE.false)
+pub returns-in-LookUp-clause-table_after : goal.returns-in-LookUp-clause-table_after
+unfolding done
+returns-in-LookUp-clause-table_after c =
+    ap (λ (o : Operation). with_done c.args.many (operation_of o) (contents_of c.args.many c.args.table.now)) (sym c.in-LookUp.is)

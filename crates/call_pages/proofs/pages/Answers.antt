@@ -1,23 +1,14 @@
 -- `call_pages::pages` meets its contract. Assumes nothing.
 use mathlib.Core.Path.{sym, ◌∙◌}
-use native.Mathlib.Omega.{arith}
-use lib.ListN.{length}
-use Rattle.table_limits.proofs.Lengths.{slots_for_some}
+use Rattle.table_limits.proofs.Lengths.{slots_none, slots_sized}
 use Rattle.text_pages.specs.Pages.{pages_of}
 use Rattle.call_meaning.proofs.Texts.{refused_length}
 use Rattle.call_pages.proofs.pages.Goals as goal
 
-pub returns-then-many-eq0-clause-output_after : goal.returns-then-many-eq0-clause-output_after
-returns-then-many-eq0-clause-output_after c =
-    let args = c.args in (refused_length pages_of args.table.now args.output.now (sym c.slots_for-many.ensures ∙ c.if-many-eq0.true)).1
-
-pub returns-then-many-eq0-clause-result_value : goal.returns-then-many-eq0-clause-result_value
-returns-then-many-eq0-clause-result_value c =
-    let args = c.args in (refused_length pages_of args.table.now args.output.now (sym c.slots_for-many.ensures ∙ c.if-many-eq0.true)).0
+pub returns-in_default : goal.returns-in_default
+returns-in_default c = refused_length pages_of c.args.table.now c.args.output.now (slots_none _ (sym c.slots_for.ensures ∙ c.in_default.is))
 
 pub pages_with_room-requires : goal.pages_with_room-requires
 pages_with_room-requires c =
-    let words = c.args.table.now in
-    let here = c.slots_for-many.ensures in
-    let right = slots_for_some (length words) (λ e. c.if-many-eq0.false (here ∙ e)) in
-    (omega (arith, here, right.some), omega (arith, here, right.within), omega (arith, here, right.long))
+    let right = slots_sized _ _ (sym c.slots_for.ensures ∙ c.in-Some.is) in
+    (right.some, right.within, right.long)

@@ -1,7 +1,6 @@
 -- `call_points::points` meets its contract. Assumes nothing.
 use mathlib.Core.Bool.{true}
 use mathlib.Core.Path.{◌≡◌, sym, ap, ◌∙◌}
-use lib.IntN.{pos}
 use borrow.Author.Rules.{rules}
 use mir.Syntax.{w32, w64}
 use mir.Val.{to_z, of_z}
@@ -11,7 +10,7 @@ use Rattle.measure.proofs.Corrections.{handed_on}
 use Rattle.paris_points.specs.Points.{corrected, least_rest, greatest_rest}
 use Rattle.call_points.proofs.Answering.{refused, not_measured, sized}
 use Rattle.call_points.proofs.points.Goals as goal
-use Rattle.call_points.proofs.points.Goals.{After-is_measure, After-rest, Else-not-is_measure, Start}
+use Rattle.call_points.proofs.points.Goals.{After-is_measure, Else-not-is_measure, Start}
 
 -- The measure that was handed in; as a number of 32 bits it is the same.
 abbrev measure : Start → Measure
@@ -27,48 +26,25 @@ tested c = ap is_measure (sym (same (goal.at.After-is_measure c).Start)) ∙ sym
 right : (c : Else-not-is_measure) → is_measure (measure (goal.at.Else-not-is_measure c).Start) ≡ true
 right c = tested (goal.at.Else-not-is_measure c).After-is_measure ∙ c.if-not-is_measure.false
 
--- the places on the way to a size
-module _ (c : After-rest) where
-  back : to_z w64 (of_z w64 c.rest.result) ≡ c.rest.result
-  back = to_z-of_z w64 c.rest.result (search rules)
+pub returns-then-not-is_measure : goal.returns-then-not-is_measure
+returns-then-not-is_measure c =
+    let at = goal.at.returns-then-not-is_measure c in
+    refused (measure at.Start) (tested at.After-is_measure ∙ c.if-not-is_measure.true)
 
-  is : pos c.corrected-t.result ≡ corrected (measure (goal.at.After-rest c).Start)
-  is = c.corrected-t.ensures.0 ∙ ap corrected (same (goal.at.After-rest c).Start)
+pub returns-then-length-eq0 : goal.returns-then-length-eq0
+returns-then-length-eq0 c =
+    let at = goal.at.returns-then-length-eq0 c in
+    not_measured (measure at.Start) (right at.Else-not-is_measure) c.if-length-eq0.true
 
-pub returns-then-not-is_measure-clause-result_value : goal.returns-then-not-is_measure-clause-result_value
-returns-then-not-is_measure-clause-result_value c = (refused (measure (goal.at.returns-then-not-is_measure-clause-result_value c).Start) (tested (goal.at.returns-then-not-is_measure-clause-result_value c).After-is_measure ∙ c.if-not-is_measure.true)).0
-
-pub returns-then-not-is_measure-clause-result_value_2 : goal.returns-then-not-is_measure-clause-result_value_2
-returns-then-not-is_measure-clause-result_value_2 c = ((refused (measure (goal.at.returns-then-not-is_measure-clause-result_value_2 c).Start) (tested (goal.at.returns-then-not-is_measure-clause-result_value_2 c).After-is_measure ∙ c.if-not-is_measure.true)).1).0
-
-pub returns-then-not-is_measure-clause-result_value_3 : goal.returns-then-not-is_measure-clause-result_value_3
-returns-then-not-is_measure-clause-result_value_3 c = ((refused (measure (goal.at.returns-then-not-is_measure-clause-result_value_3 c).Start) (tested (goal.at.returns-then-not-is_measure-clause-result_value_3 c).After-is_measure ∙ c.if-not-is_measure.true)).1).1
-
-pub returns-then-length-eq0-clause-result_value : goal.returns-then-length-eq0-clause-result_value
-returns-then-length-eq0-clause-result_value c = (not_measured (measure (goal.at.returns-then-length-eq0-clause-result_value c).Start) (right (goal.at.returns-then-length-eq0-clause-result_value c).Else-not-is_measure) c.if-length-eq0.true).0
-
-pub returns-then-length-eq0-clause-result_value_2 : goal.returns-then-length-eq0-clause-result_value_2
-returns-then-length-eq0-clause-result_value_2 c = ((not_measured (measure (goal.at.returns-then-length-eq0-clause-result_value_2 c).Start) (right (goal.at.returns-then-length-eq0-clause-result_value_2 c).Else-not-is_measure) c.if-length-eq0.true).1).0
-
-pub returns-then-length-eq0-clause-result_value_3 : goal.returns-then-length-eq0-clause-result_value_3
-returns-then-length-eq0-clause-result_value_3 c = ((not_measured (measure (goal.at.returns-then-length-eq0-clause-result_value_3 c).Start) (right (goal.at.returns-then-length-eq0-clause-result_value_3 c).Else-not-is_measure) c.if-length-eq0.true).1).1
-
-pub returns-clause-result_value : goal.returns-clause-result_value
-returns-clause-result_value c = (sized (measure (goal.at.returns-clause-result_value c).Start) (right (goal.at.returns-clause-result_value c).Else-not-is_measure) c.if-length-eq0.false
+pub returns : goal.returns
+returns c =
+    let at = goal.at.returns c in
+    let back : to_z w64 (of_z w64 c.rest-rest.result) ≡ c.rest-rest.result = to_z-of_z w64 c.rest-rest.result (search rules) in
+    sized (measure at.Start) (right at.Else-not-is_measure) c.if-length-eq0.false
     c.corrected-t.result
-    c.half_points-size.result
-    (to_z w64 (of_z w64 c.rest.result))
-    (is c)
-    c.half_points-size.ensures
-    (back c ∙ c.rest.ensures.0)
-    (ap (lies_z least_rest greatest_rest) (back c) ∙ c.rest.ensures.1)).0
-
-pub returns-clause-result_value_2 : goal.returns-clause-result_value_2
-returns-clause-result_value_2 c = ((sized (measure (goal.at.returns-clause-result_value_2 c).Start) (right (goal.at.returns-clause-result_value_2 c).Else-not-is_measure) c.if-length-eq0.false
-    c.corrected-t.result
-    c.half_points-size.result
-    (to_z w64 (of_z w64 c.rest.result))
-    (is c)
-    c.half_points-size.ensures
-    (back c ∙ c.rest.ensures.0)
-    (ap (lies_z least_rest greatest_rest) (back c) ∙ c.rest.ensures.1)).1).0
+    c.half_points-half_points.result
+    (to_z w64 (of_z w64 c.rest-rest.result))
+    (c.corrected-t.ensures.0 ∙ ap corrected (same at.Start))
+    c.half_points-half_points.ensures
+    (back ∙ c.rest-rest.ensures.0)
+    (ap (lies_z least_rest greatest_rest) back ∙ c.rest-rest.ensures.1)

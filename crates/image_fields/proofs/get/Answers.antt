@@ -1,23 +1,33 @@
--- `image_fields::get` meets its contract. The loop's invariant: the number is that of the bytes from the i-th on. Assumes nothing.
-use Prim.Native.Nat.{◌+◌, ◌-◌, ◌<◌}
+-- `image_fields::get` meets its contract. The loop's invariant: the number is that of the bytes passed. Assumes nothing.
+use Prim.Native.Nat.{◌+◌, ◌-◌, ◌^◌, ◌<◌}
 use native.Mathlib.Omega.{arith}
-use lib.ListN.{get_or}
-use Rattle.image_fields.proofs.Getting.{got_room, got_all, got_more}
+use Rattle.std.proofs.lemmas.Iterator.Adapters.{YieldsList-from_rev_slice}
+use Rattle.std.proofs.lemmas.Iterator.Consumers.{YieldsList-turn, YieldsList-end}
+use Rattle.std.proofs.lemmas.List.{length-reverse}
+use lib.ListN.{drop, length-drop}
+use lib.Seq.{length-take-le}
+use Rattle.image_fields.proofs.Getting.{field, got_room, got_all}
+use borrow.Author.Rules.{rules}
 use Rattle.image_fields.proofs.get.Goals as goal
-use Rattle.image_fields.proofs.get.Goals.{In-loop-i}
+use Rattle.image_fields.proofs.get.Goals.{In-Some}
 
--- the byte that is read
-byte : (c : In-loop-i) → get_or c.args.bytes.now (c.args.at + (c.loop-i.i - 1)) 0 < 256
-byte c = omega (arith, c.type_inv.bytes (c.args.at + (c.loop-i.i - 1)))
+-- while a byte is left, fewer are passed than the field has, and the number leaves room for it
+room : (c : In-Some) → c.loop-byte.number < 256 ^ 7
+room c =
+    let loop = c.loop-byte in
+    let part = field c.args.bytes.now c.args.at c.args.width in
+    let t = YieldsList-turn (YieldsList-from_rev_slice part (search rules)) loop.yielded _ loop.yielded_by _ _ c.in-Some.byte c.in-Some.is c.next.ensures.steps in
+    let long = length-take-le (c.args.at + c.args.width - c.args.at) (drop c.args.at c.args.bytes.now) (omega (arith, c.requires.0, length-drop c.args.at c.args.bytes.now)) in
+    got_room loop.number _ c.args.width loop.invariant.3 (omega (arith, t.0, length-reverse part, long)) c.requires.1
 
 pub overflow_mul-number : goal.overflow_mul-number
-overflow_mul-number c = omega (arith, got_room _ _ _ _ _ c.loop-i.invariant c.requires.1 c.loop-i-test.true)
+overflow_mul-number c = omega (arith, room c)
 
-pub overflow_add-number-in-loop-i : goal.overflow_add-number-in-loop-i
-overflow_add-number-in-loop-i c = omega (arith, byte (goal.at.overflow_add-number-in-loop-i c).In-loop-i, got_room _ _ _ _ _ c.loop-i.invariant c.requires.1 c.loop-i-test.true)
-
-pub loop-i-preserved : goal.loop-i-preserved
-loop-i-preserved c = got_more c.args.bytes.now c.args.at c.args.width c.loop-i.number c.loop-i.i c.loop-i.invariant c.loop-i-test.true c.requires.0 (byte (goal.at.loop-i-preserved c).In-loop-i)
+pub overflow_add-number : goal.overflow_add-number
+overflow_add-number c = let h = room (goal.at.overflow_add-number c).In-Some in search rules
 
 pub returns : goal.returns
-returns c = got_all _ _ _ _ _ c.loop-i.invariant c.loop-i-test.false
+returns c =
+    let loop = c.loop-byte in
+    let t = YieldsList-end (YieldsList-from_rev_slice (field c.args.bytes.now c.args.at c.args.width) (search rules)) loop.yielded _ loop.yielded_by _ _ c.in-None.is c.next.ensures.steps in
+    got_all c.args.bytes.now c.args.at c.args.width loop.number _ loop.invariant.2 t.0

@@ -5,5 +5,5 @@ use Rattle.lists.proofs.Copying.{Counted}
 use Rattle.image_parts.specs.Parts.{measured_at}
 use Rattle.image_parts.proofs.count_measured.Given as goal
 
-abbrev pub invariant-loop-j : goal.invariant-loop-j
-invariant-loop-j l = Counted (measured_at l.tags) l.sorted (length l.sorted) l.many l.j
+abbrev pub invariant-loop-i : goal.invariant-loop-i
+invariant-loop-i l = Counted (measured_at l.tags) l.sorted (length l.sorted) l.many l.i-index

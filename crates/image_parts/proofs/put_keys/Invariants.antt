@@ -1,8 +1,7 @@
--- `image_parts::put_keys` meets its contract. The loop's invariant: the records of the keys from `low` up to `j` are written, up to
--- `next`. Assumes nothing.
-use Prim.Native.Nat.{◌≤◌}
+-- `image_parts::put_keys` meets its contract. The loop's invariant: the records of the keys passed are written, up to `next`. Assumes nothing.
+use Rattle.treap_columns.specs.Lent.{lists_of}
 use Rattle.image_parts.proofs.Nodes.{KeysPut}
 use Rattle.image_parts.proofs.put_keys.Given as goal
 
-abbrev pub invariant-loop-j : goal.invariant-loop-j
-invariant-loop-j l = (l.j ≤ l.high) × KeysPut l.keys l.tags l.left l.right l.rank l.count l.sorted l.initial.output l.low l.at l.output l.next l.j
+abbrev pub invariant-loop-i : goal.invariant-loop-i
+invariant-loop-i l = KeysPut l.keys l.tags (lists_of l.columns) l.run l.initial.output l.at l.output l.next l.i-index

@@ -8,7 +8,7 @@ use lib.ListN.{length, take, drop}
 use lib.Seq.{length-take-le, take_at}
 use Rattle.lists.specs.Lists.{All, overwrite, same, lies}
 use Rattle.lists.proofs.Keep.{all_of_indices}
-use Rattle.lists.proofs.Start.{starts_with, as_long}
+use Rattle.lists.proofs.Start.{starts_with}
 use Rattle.table.specs.Layout.{most_slots, least_order, greatest_order}
 use Rattle.table.specs.Contents.{rising_keys, keys_in, right_measure}
 use Rattle.table.specs.Tags.{tags_in, tagged}
@@ -23,241 +23,136 @@ use Rattle.image_collect.specs.Reading.{readable, entries_of, RoomFor}
 use Rattle.image_collect.proofs.Readable.{unreadable, readable_header, readable_few, readable_fits}
 use Rattle.image_recognize.proofs.Recognizing.{order_shown, shown_right, shown_tagged, stop, wrong_order_lem, not_rising_lem, wrong_length_lem, differs, can_be_written, is_one, accepted, told_readable, told_broken, told_number, shown_size, tags_size, keys_sorted, tags_sorted, written_over}
 use Rattle.image_recognize.proofs.recognize_within.Goals as goal
-use Rattle.image_recognize.proofs.recognize_within.Goals.{After-collect-found, After-is_rising, After-sort_keys, After-write-written, Else-not-is_rising, Else-not-is_within, Else-written-size, In-Keys}
+use Rattle.image_recognize.proofs.recognize_within.Goals.{After-is_rising, After-sort_keys, After-write-written, Else-not-is_rising, Else-not-is_within, Else-written-size, In_ok-n}
 
-abbrev bytes : After-collect-found → List ℕ
-bytes q = q.args.image.now
+-- ---- what was collected
+was_readable : (p : In_ok-n) → readable (length p.args.keys.now) p.args.image.now ≡ true
+was_readable p = told_readable (length p.args.keys.now) p.args.image.now p.in_ok-n.n (sym p.collect.ensures.value ∙ p.in_ok-n.was)
 
-abbrev lent : After-collect-found → List ℕ
-lent q = q.args.keys.now
+number : (p : In_ok-n) → p.in_ok-n.n ≡ length (entries_of p.args.image.now)
+number p = told_number (length p.args.keys.now) p.args.image.now p.in_ok-n.n (sym p.collect.ensures.value ∙ p.in_ok-n.was)
 
-abbrev lent-tags : After-collect-found → List ℕ
-lent-tags q = q.args.tags.now
+few : (p : In_ok-n) → p.in_ok-n.n ≤ most_slots
+few p = omega (arith, number p, readable_few (length p.args.keys.now) p.args.image.now (was_readable p), p.requires.keys_room.0)
 
-abbrev collected-keys : After-collect-found → List ℕ
-collected-keys q = q.collect-found.new.keys
+fits : (p : In_ok-n) (room : ℕ) → RoomFor (length p.args.image.now) room → p.in_ok-n.n ≤ room
+fits p room enough = omega (arith, number p, readable_fits (length p.args.keys.now) p.args.image.now (was_readable p) room (omega (arith, p.requires.keys_room.0)) enough)
 
-abbrev collected-tags : After-collect-found → List ℕ
-collected-tags q = q.collect-found.new.tags
+has_header : (p : In_ok-n) → header_span p.args.image.now ≤ length p.args.image.now
+has_header p = readable_header (length p.args.keys.now) p.args.image.now (was_readable p)
 
-byte-sized : (q : After-collect-found) → All IsByte (bytes q)
-byte-sized q = all_of_indices IsByte (bytes q) 0 (λ i l. omega (arith, q.type_inv.image i))
+right : (p : In_ok-n) → All (λ e. right_measure e ≡ true) (read_image p.args.image.now).entries
+right p = shown_right p.args.image.now (length p.args.keys.now) (was_readable p)
 
-abbrev size : In-Keys → ℕ
-size p = p.in-Keys.n
+abbrev shown : In_ok-n → List ℕ
+shown p = keys_in (read_image p.args.image.now)
 
-was-readable : (p : In-Keys) → readable (length (lent (goal.at.In-Keys p).After-collect-found)) (bytes (goal.at.In-Keys p).After-collect-found) ≡ true
-was-readable p =
-    told_readable (length (lent (goal.at.In-Keys p).After-collect-found)) (bytes (goal.at.In-Keys p).After-collect-found) (size p) (sym p.collect-found.ensures.value ∙ p.in-Keys.is)
+abbrev tags_shown : In_ok-n → List ℕ
+tags_shown p = tags_in (read_image p.args.image.now)
 
-number : (p : In-Keys) → size p ≡ length (entries_of (bytes (goal.at.In-Keys p).After-collect-found))
-number p =
-    told_number (length (lent (goal.at.In-Keys p).After-collect-found)) (bytes (goal.at.In-Keys p).After-collect-found) (size p) (sym p.collect-found.ensures.value ∙ p.in-Keys.is)
+shown_long : (p : In_ok-n) → length (shown p) ≡ p.in_ok-n.n
+shown_long p = shown_size p.args.image.now p.in_ok-n.n (number p)
 
-in-keys : (p : In-Keys) → size p ≤ length (lent (goal.at.In-Keys p).After-collect-found)
-in-keys p = omega (arith, number p, readable_few (length (lent (goal.at.In-Keys p).After-collect-found)) (bytes (goal.at.In-Keys p).After-collect-found) (was-readable p))
+tags_long : (p : In_ok-n) → length (tags_shown p) ≡ p.in_ok-n.n
+tags_long p = tags_size p.args.image.now ∙ shown_long p
 
-few : (p : In-Keys) → size p ≤ most_slots
-few p = omega (arith, in-keys p, p.requires.keys_len.0)
-
-in-tags : (p : In-Keys) → size p ≤ length (lent-tags (goal.at.In-Keys p).After-collect-found)
-in-tags p = omega (arith, few p, p.requires.keys_len.1)
-
-fits : (p : In-Keys) (room : ℕ) → RoomFor (length (bytes (goal.at.In-Keys p).After-collect-found)) room → size p ≤ room
-fits p room enough =
-    omega (arith, number p, readable_fits (length (lent (goal.at.In-Keys p).After-collect-found)) (bytes (goal.at.In-Keys p).After-collect-found) (was-readable p) room (omega (arith, p.requires.keys_len.0)) enough)
-
-has-header : (p : In-Keys) → header_span (bytes (goal.at.In-Keys p).After-collect-found) ≤ length (bytes (goal.at.In-Keys p).After-collect-found)
-has-header p = readable_header (length (lent (goal.at.In-Keys p).After-collect-found)) (bytes (goal.at.In-Keys p).After-collect-found) (was-readable p)
-
-right : (p : In-Keys) → All (λ e. right_measure e ≡ true) (read_image (bytes (goal.at.In-Keys p).After-collect-found)).entries
-right p = shown_right (bytes (goal.at.In-Keys p).After-collect-found) (length (lent (goal.at.In-Keys p).After-collect-found)) (was-readable p)
-
-order_right : (p : Else-not-is_within) → lies least_order greatest_order (order_shown (bytes (goal.at.Else-not-is_within p).After-collect-found)) ≡ true
-order_right p =
-    ap (lies least_order greatest_order) (sym p.get-order.ensures) ∙ sym p.is_within.ensures ∙ p.if-not-is_within.false
-
-abbrev sorted : After-sort_keys → List ℕ
-sorted q = q.sort_keys.new.keys
-
-abbrev sorted-tags : After-sort_keys → List ℕ
-sorted-tags q = q.sort_keys.new.tags
-
-abbrev shown : In-Keys → List ℕ
-shown p = keys_in (read_image (bytes (goal.at.In-Keys p).After-collect-found))
-
-abbrev tags-shown : In-Keys → List ℕ
-tags-shown p = tags_in (read_image (bytes (goal.at.In-Keys p).After-collect-found))
-
-had : (p : In-Keys) →
-    Collected (entries_of (bytes (goal.at.In-Keys p).After-collect-found)) (lent (goal.at.In-Keys p).After-collect-found) (collected-keys (goal.at.In-Keys p).After-collect-found) (lent-tags (goal.at.In-Keys p).After-collect-found) (collected-tags (goal.at.In-Keys p).After-collect-found) (size p)
+had : (p : In_ok-n) → Collected (entries_of p.args.image.now) p.args.keys.now p.collect.new.keys p.args.tags.now p.collect.new.tags p.in_ok-n.n
 had p =
-    let collect = p.collect-found in
     record {
-      keys_are = collect.ensures.keys_after (was-readable p);
-      tags_are = collect.ensures.tags_after (was-readable p);
+      keys_are = p.collect.ensures.keys_after (was_readable p);
+      tags_are = p.collect.ensures.tags_after (was_readable p);
       count = number p;
-      room = in-keys p;
-      more = in-tags p;
+      room = omega (arith, few p, p.requires.keys_room.0);
+      more = omega (arith, few p, p.requires.keys_room.1);
     }
 
-sorted-is : (q : After-sort_keys) → sorted q ≡ overwrite (lent (goal.at.After-sort_keys q).After-collect-found) 0 (shown (goal.at.After-sort_keys q).In-Keys)
-sorted-is q =
-    keys_sorted (bytes (goal.at.After-sort_keys q).After-collect-found) (had (goal.at.After-sort_keys q).In-Keys) (sorted q) q.sort_keys.ensures.keys_after
+-- ---- and once it is sorted
+sorted_is : (q : After-sort_keys) → q.sort_keys.new.keys ≡ overwrite q.args.keys.now 0 (shown (goal.at.After-sort_keys q).In_ok-n)
+sorted_is q = keys_sorted q.args.image.now (had (goal.at.After-sort_keys q).In_ok-n) q.sort_keys.new.keys q.sort_keys.ensures.keys_after
 
-shown-long : (p : In-Keys) → length (shown p) ≡ size p
-shown-long p = shown_size (bytes (goal.at.In-Keys p).After-collect-found) (size p) (number p)
+taken : (q : After-sort_keys) → take q.in_ok-n.n q.sort_keys.new.keys ≡ shown (goal.at.After-sort_keys q).In_ok-n
+taken q = let p = (goal.at.After-sort_keys q).In_ok-n in starts_with q.sort_keys.new.keys q.args.keys.now (shown p) q.in_ok-n.n (sorted_is q) (shown_long p)
 
-tags_long : (p : In-Keys) → length (tags-shown p) ≡ size p
-tags_long p = tags_size (bytes (goal.at.In-Keys p).After-collect-found) ∙ shown-long p
+inside : (q : After-sort_keys) → q.in_ok-n.n ≤ length q.sort_keys.new.keys
+inside q = let p = (goal.at.After-sort_keys q).In_ok-n in omega (arith, few p, q.requires.keys_room.0)
 
-taken : (q : After-sort_keys) → take (size (goal.at.After-sort_keys q).In-Keys) (sorted q) ≡ shown (goal.at.After-sort_keys q).In-Keys
-taken q = starts_with (sorted q) (lent (goal.at.After-sort_keys q).After-collect-found) (shown (goal.at.After-sort_keys q).In-Keys) (size (goal.at.After-sort_keys q).In-Keys) (sorted-is q) (shown-long (goal.at.After-sort_keys q).In-Keys)
+inside_tags : (q : After-sort_keys) → q.in_ok-n.n ≤ length q.sort_keys.new.tags
+inside_tags q = let p = (goal.at.After-sort_keys q).In_ok-n in omega (arith, few p, q.requires.keys_room.1)
 
-keys_kept : (q : After-sort_keys) → length (sorted q) ≡ length (lent (goal.at.After-sort_keys q).After-collect-found)
-keys_kept q =
-    as_long (sorted q) (lent (goal.at.After-sort_keys q).After-collect-found) (shown (goal.at.After-sort_keys q).In-Keys) (size (goal.at.After-sort_keys q).In-Keys) (sorted-is q) (shown-long (goal.at.After-sort_keys q).In-Keys) (in-keys (goal.at.After-sort_keys q).In-Keys)
-
-inside : (q : After-sort_keys) → size (goal.at.After-sort_keys q).In-Keys ≤ length (sorted q)
-inside q = omega (arith, in-keys (goal.at.After-sort_keys q).In-Keys, keys_kept q)
-
-tags-kept : (r : After-is_rising) → length (sorted-tags (goal.at.After-is_rising r).After-sort_keys) ≡ length (lent-tags (goal.at.After-is_rising r).After-collect-found)
-tags-kept r = omega arith
-
-inside-tags : (p : Else-not-is_rising) → size (goal.at.Else-not-is_rising p).In-Keys ≤ length (sorted-tags (goal.at.Else-not-is_rising p).After-sort_keys)
-inside-tags p = omega (arith, in-tags (goal.at.Else-not-is_rising p).In-Keys, tags-kept (goal.at.Else-not-is_rising p).After-is_rising)
-
-rise : (p : Else-not-is_rising) → rising_keys (shown (goal.at.Else-not-is_rising p).In-Keys) ≡ true
+rise : (p : Else-not-is_rising) → rising_keys (shown (goal.at.Else-not-is_rising p).In_ok-n) ≡ true
 rise p = sym (p.is_rising.ensures ∙ ap rising_keys (taken (goal.at.Else-not-is_rising p).After-sort_keys)) ∙ p.if-not-is_rising.false
 
-tags_are : (p : Else-not-is_rising) → sorted-tags (goal.at.Else-not-is_rising p).After-sort_keys ≡ overwrite (lent-tags (goal.at.Else-not-is_rising p).After-collect-found) 0 (tags-shown (goal.at.Else-not-is_rising p).In-Keys)
-tags_are p =
-    tags_sorted (bytes (goal.at.Else-not-is_rising p).After-collect-found) (had (goal.at.Else-not-is_rising p).In-Keys) (sorted-tags (goal.at.Else-not-is_rising p).After-sort_keys) p.sort_keys.ensures.tags_sorted (rise p)
+tags_are : (p : Else-not-is_rising) → p.sort_keys.new.tags ≡ overwrite p.args.tags.now 0 (tags_shown (goal.at.Else-not-is_rising p).In_ok-n)
+tags_are p = tags_sorted p.args.image.now (had (goal.at.Else-not-is_rising p).In_ok-n) p.sort_keys.new.tags p.sort_keys.ensures.tags_sorted (rise p)
 
-tags_taken : (p : Else-not-is_rising) → take (size (goal.at.Else-not-is_rising p).In-Keys) (sorted-tags (goal.at.Else-not-is_rising p).After-sort_keys) ≡ tags-shown (goal.at.Else-not-is_rising p).In-Keys
-tags_taken p =
-    starts_with (sorted-tags (goal.at.Else-not-is_rising p).After-sort_keys) (lent-tags (goal.at.Else-not-is_rising p).After-collect-found) (tags-shown (goal.at.Else-not-is_rising p).In-Keys) (size (goal.at.Else-not-is_rising p).In-Keys) (tags_are p) (tags_long (goal.at.Else-not-is_rising p).In-Keys)
+tags_taken : (p : Else-not-is_rising) → take p.in_ok-n.n p.sort_keys.new.tags ≡ tags_shown (goal.at.Else-not-is_rising p).In_ok-n
+tags_taken p = let at = goal.at.Else-not-is_rising p in starts_with p.sort_keys.new.tags p.args.tags.now (tags_shown at.In_ok-n) p.in_ok-n.n (tags_are p) (tags_long at.In_ok-n)
 
-keys_right : (p : Else-not-is_rising) → Keys (order_shown (bytes (goal.at.Else-not-is_rising p).After-collect-found)) (shown (goal.at.Else-not-is_rising p).In-Keys)
-keys_right p =
-    can_be_written (bytes (goal.at.Else-not-is_rising p).After-collect-found) (order_right (goal.at.Else-not-is_rising p).Else-not-is_within) (rise p) (omega (arith, few (goal.at.Else-not-is_rising p).In-Keys, shown-long (goal.at.Else-not-is_rising p).In-Keys))
+order_right : (p : Else-not-is_within) → lies least_order greatest_order (order_shown p.args.image.now) ≡ true
+order_right p = ap (lies least_order greatest_order) (sym p.get-order.ensures) ∙ sym p.is_within.ensures ∙ p.if-not-is_within.false
 
-abbrev copied : After-write-written → List ℕ
-copied w = w.write-written.new.output
+few_shown : (p : In_ok-n) → length (shown p) ≤ most_slots
+few_shown p = omega (arith, few p, shown_long p)
 
-abbrev order-got : After-write-written → ℕ
-order-got w = w.get-order.result
-
-abbrev salt-got : After-write-written → ℕ
-salt-got w = w.salt_shown-salt.result
-
-drawn : (w : After-write-written)
-    → image_of (tagged (order-got w) (salt-got w) (take (size (goal.at.After-write-written w).In-Keys) (sorted (goal.at.After-write-written w).After-sort_keys)) (take (size (goal.at.After-write-written w).In-Keys) (sorted-tags (goal.at.After-write-written w).After-sort_keys)))
-    ≡ image_of (read_image (bytes (goal.at.After-write-written w).After-collect-found))
+-- ---- the image that was written
+drawn : (w : After-write-written) → image_of (tagged w.get-order.result w.salt_shown-salt.result (take w.in_ok-n.n w.sort_keys.new.keys) (take w.in_ok-n.n w.sort_keys.new.tags)) ≡ image_of (read_image w.args.image.now)
 drawn w =
-    let b = bytes (goal.at.After-write-written w).After-collect-found in
-    ap₂ (λ (order salt : ℕ). image_of (tagged order salt (take (size (goal.at.After-write-written w).In-Keys) (sorted (goal.at.After-write-written w).After-sort_keys)) (take (size (goal.at.After-write-written w).In-Keys) (sorted-tags (goal.at.After-write-written w).After-sort_keys))))
-    w.get-order.ensures w.salt_shown-salt.ensures
-    ∙ ap₂ (λ (keys tags : List ℕ). image_of (tagged (order_shown b) (salt_shown b) keys tags)) (taken (goal.at.After-write-written w).After-sort_keys) (tags_taken (goal.at.After-write-written w).Else-not-is_rising)
-    ∙ ap image_of (shown_tagged b (right (goal.at.After-write-written w).In-Keys))
+    let b = w.args.image.now in
+    let at = goal.at.After-write-written w in
+    ap₂ (λ (order salt : ℕ). image_of (tagged order salt (take w.in_ok-n.n w.sort_keys.new.keys) (take w.in_ok-n.n w.sort_keys.new.tags))) w.get-order.ensures w.salt_shown-salt.ensures
+    ∙ ap₂ (λ (keys tags : List ℕ). image_of (tagged (order_shown b) (salt_shown b) keys tags)) (taken at.After-sort_keys) (tags_taken at.Else-not-is_rising)
+    ∙ ap image_of (shown_tagged b (right at.In_ok-n))
 
-written_size : (w : After-write-written) → w.write-written.result ≡ length (image_of (read_image (bytes (goal.at.After-write-written w).After-collect-found)))
+written_size : (w : After-write-written) → w.write-written.result ≡ length (image_of (read_image w.args.image.now))
 written_size w = w.write-written.ensures.value ∙ ap length (drawn w)
 
-abbrev compared : Else-written-size → List ℕ
-compared p = bytes (goal.at.Else-written-size p).After-collect-found
-
-long : (p : Else-written-size) → length (image_of (read_image (compared p))) ≡ length (compared p)
+long : (p : Else-written-size) → length (image_of (read_image p.args.image.now)) ≡ length p.args.image.now
 long p = sym (written_size (goal.at.Else-written-size p).After-write-written) ∙ p.if-written-size.false
 
-copied_is : (p : Else-written-size) → copied (goal.at.Else-written-size p).After-write-written ≡ image_of (read_image (compared p))
+copied_is : (p : Else-written-size) → p.write-written.new.output ≡ image_of (read_image p.args.image.now)
 copied_is p =
-    let part = take (length (compared p)) p.args.copy.now in
+    let part = take (length p.args.image.now) p.args.copy.now in
     p.write-written.ensures.output_after
     ∙ ap (written_to part) (drawn (goal.at.Else-written-size p).After-write-written)
-    ∙ written_over part (image_of (read_image (compared p))) (long p ∙ sym (length-take-le _ _ p.requires.keys_len.2))
+    ∙ written_over part (image_of (read_image p.args.image.now)) (long p ∙ sym (length-take-le _ _ p.requires.keys_room.2))
 
-copied-long : (p : Else-written-size) → length (copied (goal.at.Else-written-size p).After-write-written) ≡ length (compared p)
-copied-long p = ap length (copied_is p) ∙ long p
+-- the part of the list after it that is compared
+copy_shows : (p : Else-written-size) → take (length p.args.image.now) (p.write-written.new.output ++ drop (length p.args.image.now) p.args.copy.now) ≡ image_of (read_image p.args.image.now)
+copy_shows p = take_at p.write-written.new.output _ (length p.args.image.now) (ap length (copied_is p) ∙ long p) ∙ copied_is p
 
--- the list after it, and the part of it that is compared
-abbrev copy-after : Else-written-size → List ℕ
-copy-after p = copied (goal.at.Else-written-size p).After-write-written ++ drop (length (compared p)) p.args.copy.now
-
-copy_shows : (p : Else-written-size) → take (length (compared p)) (copy-after p) ≡ image_of (read_image (compared p))
-copy_shows p = take_at (copied (goal.at.Else-written-size p).After-write-written) _ (length (compared p)) (copied-long p) ∙ copied_is p
-
-pub returns-in_default-clause-keys_after : goal.returns-in_default-clause-keys_after
-returns-in_default-clause-keys_after c =
-    let lacking = told_broken (length (lent (goal.at.returns-in_default-clause-keys_after c).After-collect-found)) (bytes (goal.at.returns-in_default-clause-keys_after c).After-collect-found) (sym c.collect-found.ensures.value ∙ c.in_default.is) in ((stop (bytes (goal.at.returns-in_default-clause-keys_after c).After-collect-found)
-    (unreadable (length (lent (goal.at.returns-in_default-clause-keys_after c).After-collect-found)) (bytes (goal.at.returns-in_default-clause-keys_after c).After-collect-found) (λ n few h. omega (arith, few, c.requires.keys_len.0)) (byte-sized (goal.at.returns-in_default-clause-keys_after c).After-collect-found) lacking)
-    (lent (goal.at.returns-in_default-clause-keys_after c).After-collect-found) (lent-tags (goal.at.returns-in_default-clause-keys_after c).After-collect-found) (collected-keys (goal.at.returns-in_default-clause-keys_after c).After-collect-found) (collected-tags (goal.at.returns-in_default-clause-keys_after c).After-collect-found)).1).0
-
-pub returns-in_default-clause-tags_after : goal.returns-in_default-clause-tags_after
-returns-in_default-clause-tags_after c =
-    let lacking = told_broken (length (lent (goal.at.returns-in_default-clause-tags_after c).After-collect-found)) (bytes (goal.at.returns-in_default-clause-tags_after c).After-collect-found) (sym c.collect-found.ensures.value ∙ c.in_default.is) in ((stop (bytes (goal.at.returns-in_default-clause-tags_after c).After-collect-found)
-    (unreadable (length (lent (goal.at.returns-in_default-clause-tags_after c).After-collect-found)) (bytes (goal.at.returns-in_default-clause-tags_after c).After-collect-found) (λ n few h. omega (arith, few, c.requires.keys_len.0)) (byte-sized (goal.at.returns-in_default-clause-tags_after c).After-collect-found) lacking)
-    (lent (goal.at.returns-in_default-clause-tags_after c).After-collect-found) (lent-tags (goal.at.returns-in_default-clause-tags_after c).After-collect-found) (collected-keys (goal.at.returns-in_default-clause-tags_after c).After-collect-found) (collected-tags (goal.at.returns-in_default-clause-tags_after c).After-collect-found)).1).1
-
-pub returns-in_default-clause-value : goal.returns-in_default-clause-value
-returns-in_default-clause-value c =
-    let lacking = told_broken (length (lent (goal.at.returns-in_default-clause-value c).After-collect-found)) (bytes (goal.at.returns-in_default-clause-value c).After-collect-found) (sym c.collect-found.ensures.value ∙ c.in_default.is) in (stop (bytes (goal.at.returns-in_default-clause-value c).After-collect-found)
-    (unreadable (length (lent (goal.at.returns-in_default-clause-value c).After-collect-found)) (bytes (goal.at.returns-in_default-clause-value c).After-collect-found) (λ n few h. omega (arith, few, c.requires.keys_len.0)) (byte-sized (goal.at.returns-in_default-clause-value c).After-collect-found) lacking)
-    (lent (goal.at.returns-in_default-clause-value c).After-collect-found) (lent-tags (goal.at.returns-in_default-clause-value c).After-collect-found) (collected-keys (goal.at.returns-in_default-clause-value c).After-collect-found) (collected-tags (goal.at.returns-in_default-clause-value c).After-collect-found)).0
+-- ---- the answers
+pub returns-in_err-n : goal.returns-in_err-n
+returns-in_err-n c =
+    let bytes = c.args.image.now in
+    let lacking = told_broken (length c.args.keys.now) bytes (sym c.collect.ensures.value ∙ c.in_err-n.was) in
+    let sized : All IsByte bytes = all_of_indices IsByte bytes 0 (λ i l. omega (arith, c.type_inv.image i)) in
+    rw c.from_residual.ensures (stop bytes (unreadable (length c.args.keys.now) bytes (λ n few h. omega (arith, few, c.requires.keys_room.0)) sized lacking) _ _ _ _)
 
 pub salt_shown-salt-requires : goal.salt_shown-salt-requires
-salt_shown-salt-requires c = has-header (goal.at.salt_shown-salt-requires c).In-Keys
+salt_shown-salt-requires c = has_header c
 
 pub get-order-requires : goal.get-order-requires
-get-order-requires c =
-    (omega (arith, has-header (goal.at.get-order-requires c).In-Keys, header_within (bytes (goal.at.get-order-requires c).After-collect-found)), omega arith)
+get-order-requires c = (omega (arith, has_header (goal.at.get-order-requires c).In_ok-n, header_within c.args.image.now), omega arith)
 
-pub returns-then-not-is_within-clause-keys_after : goal.returns-then-not-is_within-clause-keys_after
-returns-then-not-is_within-clause-keys_after c =
-    ((stop (bytes (goal.at.returns-then-not-is_within-clause-keys_after c).After-collect-found)
-    (wrong_order_lem (bytes (goal.at.returns-then-not-is_within-clause-keys_after c).After-collect-found)
-    (ap (lies least_order greatest_order) (sym c.get-order.ensures) ∙ sym c.is_within.ensures ∙ c.if-not-is_within.true))
-    (lent (goal.at.returns-then-not-is_within-clause-keys_after c).After-collect-found) (lent-tags (goal.at.returns-then-not-is_within-clause-keys_after c).After-collect-found) (collected-keys (goal.at.returns-then-not-is_within-clause-keys_after c).After-collect-found) (collected-tags (goal.at.returns-then-not-is_within-clause-keys_after c).After-collect-found)).1).0
-
-pub returns-then-not-is_within-clause-tags_after : goal.returns-then-not-is_within-clause-tags_after
-returns-then-not-is_within-clause-tags_after c =
-    ((stop (bytes (goal.at.returns-then-not-is_within-clause-tags_after c).After-collect-found)
-    (wrong_order_lem (bytes (goal.at.returns-then-not-is_within-clause-tags_after c).After-collect-found)
-    (ap (lies least_order greatest_order) (sym c.get-order.ensures) ∙ sym c.is_within.ensures ∙ c.if-not-is_within.true))
-    (lent (goal.at.returns-then-not-is_within-clause-tags_after c).After-collect-found) (lent-tags (goal.at.returns-then-not-is_within-clause-tags_after c).After-collect-found) (collected-keys (goal.at.returns-then-not-is_within-clause-tags_after c).After-collect-found) (collected-tags (goal.at.returns-then-not-is_within-clause-tags_after c).After-collect-found)).1).1
-
-pub returns-then-not-is_within-clause-value : goal.returns-then-not-is_within-clause-value
-returns-then-not-is_within-clause-value c =
-    (stop (bytes (goal.at.returns-then-not-is_within-clause-value c).After-collect-found)
-    (wrong_order_lem (bytes (goal.at.returns-then-not-is_within-clause-value c).After-collect-found)
-    (ap (lies least_order greatest_order) (sym c.get-order.ensures) ∙ sym c.is_within.ensures ∙ c.if-not-is_within.true))
-    (lent (goal.at.returns-then-not-is_within-clause-value c).After-collect-found) (lent-tags (goal.at.returns-then-not-is_within-clause-value c).After-collect-found) (collected-keys (goal.at.returns-then-not-is_within-clause-value c).After-collect-found) (collected-tags (goal.at.returns-then-not-is_within-clause-value c).After-collect-found)).0
+pub returns-then-not-is_within : goal.returns-then-not-is_within
+returns-then-not-is_within c =
+    stop c.args.image.now (wrong_order_lem c.args.image.now (ap (lies least_order greatest_order) (sym c.get-order.ensures) ∙ sym c.is_within.ensures ∙ c.if-not-is_within.true)) _ _ _ _
 
 pub sort_keys-requires-clause-n_in_bounds : goal.sort_keys-requires-clause-n_in_bounds
 sort_keys-requires-clause-n_in_bounds c =
-    let rooms = c.requires.room_for in
-    let keys : size (goal.at.sort_keys-requires-clause-n_in_bounds c).In-Keys ≤ length (collected-keys (goal.at.sort_keys-requires-clause-n_in_bounds c).After-collect-found) = omega (arith, in-keys (goal.at.sort_keys-requires-clause-n_in_bounds c).In-Keys) in
-    let tags : size (goal.at.sort_keys-requires-clause-n_in_bounds c).In-Keys ≤ length (collected-tags (goal.at.sort_keys-requires-clause-n_in_bounds c).After-collect-found) = omega (arith, in-tags (goal.at.sort_keys-requires-clause-n_in_bounds c).In-Keys) in (keys, tags)
+    let p = (goal.at.sort_keys-requires-clause-n_in_bounds c).In_ok-n in (omega (arith, few p, c.requires.keys_room.0), omega (arith, few p, c.requires.keys_room.1))
 
 pub sort_keys-requires-clause-n_in_bounds_2 : goal.sort_keys-requires-clause-n_in_bounds_2
-sort_keys-requires-clause-n_in_bounds_2 c =
-    let rooms = c.requires.room_for in
-    fits (goal.at.sort_keys-requires-clause-n_in_bounds_2 c).In-Keys _ rooms.0
+sort_keys-requires-clause-n_in_bounds_2 c = fits (goal.at.sort_keys-requires-clause-n_in_bounds_2 c).In_ok-n _ c.requires.room_for.0
 
 pub sort_keys-requires-clause-n_in_bounds_3 : goal.sort_keys-requires-clause-n_in_bounds_3
-sort_keys-requires-clause-n_in_bounds_3 c =
-    let rooms = c.requires.room_for in
-    fits (goal.at.sort_keys-requires-clause-n_in_bounds_3 c).In-Keys _ rooms.1
+sort_keys-requires-clause-n_in_bounds_3 c = fits (goal.at.sort_keys-requires-clause-n_in_bounds_3 c).In_ok-n _ c.requires.room_for.1
 
 pub sort_keys-requires-clause-n_in_bounds_4 : goal.sort_keys-requires-clause-n_in_bounds_4
-sort_keys-requires-clause-n_in_bounds_4 c =
-    let rooms = c.requires.room_for in
-    fits (goal.at.sort_keys-requires-clause-n_in_bounds_4 c).In-Keys _ rooms.2
+sort_keys-requires-clause-n_in_bounds_4 c = fits (goal.at.sort_keys-requires-clause-n_in_bounds_4 c).In_ok-n _ c.requires.room_for.2
 
 pub sort_keys-requires-clause-n_le_most_slots : goal.sort_keys-requires-clause-n_le_most_slots
-sort_keys-requires-clause-n_le_most_slots c =
-    let rooms = c.requires.room_for in
-    few (goal.at.sort_keys-requires-clause-n_le_most_slots c).In-Keys
+sort_keys-requires-clause-n_le_most_slots c = few (goal.at.sort_keys-requires-clause-n_le_most_slots c).In_ok-n
 
 pub slice_bounds-is_rising-end : goal.slice_bounds-is_rising-end
 slice_bounds-is_rising-end c = inside (goal.at.slice_bounds-is_rising-end c).After-sort_keys
@@ -265,23 +160,9 @@ slice_bounds-is_rising-end c = inside (goal.at.slice_bounds-is_rising-end c).Aft
 pub slice_bounds-is_rising-end-2 : goal.slice_bounds-is_rising-end-2
 slice_bounds-is_rising-end-2 c = sym (length-take-le _ _ (inside (goal.at.slice_bounds-is_rising-end-2 c).After-sort_keys))
 
-pub returns-then-not-is_rising-clause-keys_after : goal.returns-then-not-is_rising-clause-keys_after
-returns-then-not-is_rising-clause-keys_after c =
-    ((stop (bytes (goal.at.returns-then-not-is_rising-clause-keys_after c).After-collect-found)
-    (not_rising_lem (bytes (goal.at.returns-then-not-is_rising-clause-keys_after c).After-collect-found) (sym (c.is_rising.ensures ∙ ap rising_keys (taken (goal.at.returns-then-not-is_rising-clause-keys_after c).After-sort_keys)) ∙ c.if-not-is_rising.true))
-    (lent (goal.at.returns-then-not-is_rising-clause-keys_after c).After-collect-found) (lent-tags (goal.at.returns-then-not-is_rising-clause-keys_after c).After-collect-found) (sorted (goal.at.returns-then-not-is_rising-clause-keys_after c).After-sort_keys) (sorted-tags (goal.at.returns-then-not-is_rising-clause-keys_after c).After-sort_keys)).1).0
-
-pub returns-then-not-is_rising-clause-tags_after : goal.returns-then-not-is_rising-clause-tags_after
-returns-then-not-is_rising-clause-tags_after c =
-    ((stop (bytes (goal.at.returns-then-not-is_rising-clause-tags_after c).After-collect-found)
-    (not_rising_lem (bytes (goal.at.returns-then-not-is_rising-clause-tags_after c).After-collect-found) (sym (c.is_rising.ensures ∙ ap rising_keys (taken (goal.at.returns-then-not-is_rising-clause-tags_after c).After-sort_keys)) ∙ c.if-not-is_rising.true))
-    (lent (goal.at.returns-then-not-is_rising-clause-tags_after c).After-collect-found) (lent-tags (goal.at.returns-then-not-is_rising-clause-tags_after c).After-collect-found) (sorted (goal.at.returns-then-not-is_rising-clause-tags_after c).After-sort_keys) (sorted-tags (goal.at.returns-then-not-is_rising-clause-tags_after c).After-sort_keys)).1).1
-
-pub returns-then-not-is_rising-clause-value : goal.returns-then-not-is_rising-clause-value
-returns-then-not-is_rising-clause-value c =
-    (stop (bytes (goal.at.returns-then-not-is_rising-clause-value c).After-collect-found)
-    (not_rising_lem (bytes (goal.at.returns-then-not-is_rising-clause-value c).After-collect-found) (sym (c.is_rising.ensures ∙ ap rising_keys (taken (goal.at.returns-then-not-is_rising-clause-value c).After-sort_keys)) ∙ c.if-not-is_rising.true))
-    (lent (goal.at.returns-then-not-is_rising-clause-value c).After-collect-found) (lent-tags (goal.at.returns-then-not-is_rising-clause-value c).After-collect-found) (sorted (goal.at.returns-then-not-is_rising-clause-value c).After-sort_keys) (sorted-tags (goal.at.returns-then-not-is_rising-clause-value c).After-sort_keys)).0
+pub returns-then-not-is_rising : goal.returns-then-not-is_rising
+returns-then-not-is_rising c =
+    stop c.args.image.now (not_rising_lem c.args.image.now (sym (c.is_rising.ensures ∙ ap rising_keys (taken (goal.at.returns-then-not-is_rising c).After-sort_keys)) ∙ c.if-not-is_rising.true)) _ _ _ _
 
 pub slice_bounds-write-end : goal.slice_bounds-write-end
 slice_bounds-write-end c = inside (goal.at.slice_bounds-write-end c).After-sort_keys
@@ -290,70 +171,38 @@ pub slice_bounds-write-end-2 : goal.slice_bounds-write-end-2
 slice_bounds-write-end-2 c = sym (length-take-le _ _ (inside (goal.at.slice_bounds-write-end-2 c).After-sort_keys))
 
 pub slice_bounds-write-end-3 : goal.slice_bounds-write-end-3
-slice_bounds-write-end-3 c = inside-tags c
+slice_bounds-write-end-3 c = inside_tags (goal.at.slice_bounds-write-end-3 c).After-sort_keys
 
 pub slice_bounds-write-end-4 : goal.slice_bounds-write-end-4
-slice_bounds-write-end-4 c = sym (length-take-le _ _ (inside-tags c))
+slice_bounds-write-end-4 c = sym (length-take-le _ _ (inside_tags (goal.at.slice_bounds-write-end-4 c).After-sort_keys))
 
 pub write-written-requires : goal.write-written-requires
 write-written-requires c =
-    let es = (read_image (bytes (goal.at.write-written-requires c).After-collect-found)).entries in (
-      subst (Keys c.get-order.result) (sym (taken (goal.at.write-written-requires c).After-sort_keys))
-          (subst (λ (order : ℕ). Keys order (shown (goal.at.write-written-requires c).In-Keys)) (sym c.get-order.ensures) (keys_right (goal.at.write-written-requires c).Else-not-is_rising)),
-      beside_of es (right (goal.at.write-written-requires c).In-Keys) (taken (goal.at.write-written-requires c).After-sort_keys) (tags_taken (goal.at.write-written-requires c).Else-not-is_rising),
-      c.requires.keys_len.3,
+    let at = goal.at.write-written-requires c in
+    let p = at.In_ok-n in
+    let b = c.args.image.now in
+    let keys = can_be_written b (order_right at.Else-not-is_within) (rise at.Else-not-is_rising) (few_shown p) in (
+      subst (Keys c.get-order.result) (sym (taken at.After-sort_keys)) (subst (λ (order : ℕ). Keys order (shown p)) (sym c.get-order.ensures) keys),
+      beside_of (read_image b).entries (right p) (taken at.After-sort_keys) (tags_taken at.Else-not-is_rising),
     )
 
-pub returns-then-written-size-clause-keys_after : goal.returns-then-written-size-clause-keys_after
-returns-then-written-size-clause-keys_after c =
-    ((stop (bytes (goal.at.returns-then-written-size-clause-keys_after c).After-collect-found)
-    (wrong_length_lem (bytes (goal.at.returns-then-written-size-clause-keys_after c).After-collect-found) (λ e. c.if-written-size.true (written_size (goal.at.returns-then-written-size-clause-keys_after c).After-write-written ∙ e)))
-    (lent (goal.at.returns-then-written-size-clause-keys_after c).After-collect-found) (lent-tags (goal.at.returns-then-written-size-clause-keys_after c).After-collect-found) (sorted (goal.at.returns-then-written-size-clause-keys_after c).After-sort_keys) (sorted-tags (goal.at.returns-then-written-size-clause-keys_after c).After-sort_keys)).1).0
+pub returns-then-written-size : goal.returns-then-written-size
+returns-then-written-size c =
+    stop c.args.image.now (wrong_length_lem c.args.image.now (λ e. c.if-written-size.true (written_size (goal.at.returns-then-written-size c).After-write-written ∙ e))) _ _ _ _
 
-pub returns-then-written-size-clause-tags_after : goal.returns-then-written-size-clause-tags_after
-returns-then-written-size-clause-tags_after c =
-    ((stop (bytes (goal.at.returns-then-written-size-clause-tags_after c).After-collect-found)
-    (wrong_length_lem (bytes (goal.at.returns-then-written-size-clause-tags_after c).After-collect-found) (λ e. c.if-written-size.true (written_size (goal.at.returns-then-written-size-clause-tags_after c).After-write-written ∙ e)))
-    (lent (goal.at.returns-then-written-size-clause-tags_after c).After-collect-found) (lent-tags (goal.at.returns-then-written-size-clause-tags_after c).After-collect-found) (sorted (goal.at.returns-then-written-size-clause-tags_after c).After-sort_keys) (sorted-tags (goal.at.returns-then-written-size-clause-tags_after c).After-sort_keys)).1).1
+pub returns-then-not-same_bytes : goal.returns-then-not-same_bytes
+returns-then-not-same_bytes c =
+    let b = c.args.image.now in
+    stop b (differs b (ap (same b) (sym (copy_shows (goal.at.returns-then-not-same_bytes c).Else-written-size)) ∙ sym c.same_bytes.ensures ∙ c.if-not-same_bytes.true)) _ _ _ _
 
-pub returns-then-written-size-clause-value : goal.returns-then-written-size-clause-value
-returns-then-written-size-clause-value c =
-    (stop (bytes (goal.at.returns-then-written-size-clause-value c).After-collect-found)
-    (wrong_length_lem (bytes (goal.at.returns-then-written-size-clause-value c).After-collect-found) (λ e. c.if-written-size.true (written_size (goal.at.returns-then-written-size-clause-value c).After-write-written ∙ e)))
-    (lent (goal.at.returns-then-written-size-clause-value c).After-collect-found) (lent-tags (goal.at.returns-then-written-size-clause-value c).After-collect-found) (sorted (goal.at.returns-then-written-size-clause-value c).After-sort_keys) (sorted-tags (goal.at.returns-then-written-size-clause-value c).After-sort_keys)).0
-
-pub returns-then-not-same_bytes-clause-keys_after : goal.returns-then-not-same_bytes-clause-keys_after
-returns-then-not-same_bytes-clause-keys_after c =
-    ((stop (compared (goal.at.returns-then-not-same_bytes-clause-keys_after c).Else-written-size)
-    (differs (compared (goal.at.returns-then-not-same_bytes-clause-keys_after c).Else-written-size)
-    (ap (same (compared (goal.at.returns-then-not-same_bytes-clause-keys_after c).Else-written-size)) (sym (copy_shows (goal.at.returns-then-not-same_bytes-clause-keys_after c).Else-written-size)) ∙ sym c.same_bytes.ensures ∙ c.if-not-same_bytes.true))
-    (lent (goal.at.returns-then-not-same_bytes-clause-keys_after c).After-collect-found) (lent-tags (goal.at.returns-then-not-same_bytes-clause-keys_after c).After-collect-found) (sorted (goal.at.returns-then-not-same_bytes-clause-keys_after c).After-sort_keys) (sorted-tags (goal.at.returns-then-not-same_bytes-clause-keys_after c).After-sort_keys)).1).0
-
-pub returns-then-not-same_bytes-clause-tags_after : goal.returns-then-not-same_bytes-clause-tags_after
-returns-then-not-same_bytes-clause-tags_after c =
-    ((stop (compared (goal.at.returns-then-not-same_bytes-clause-tags_after c).Else-written-size)
-    (differs (compared (goal.at.returns-then-not-same_bytes-clause-tags_after c).Else-written-size)
-    (ap (same (compared (goal.at.returns-then-not-same_bytes-clause-tags_after c).Else-written-size)) (sym (copy_shows (goal.at.returns-then-not-same_bytes-clause-tags_after c).Else-written-size)) ∙ sym c.same_bytes.ensures ∙ c.if-not-same_bytes.true))
-    (lent (goal.at.returns-then-not-same_bytes-clause-tags_after c).After-collect-found) (lent-tags (goal.at.returns-then-not-same_bytes-clause-tags_after c).After-collect-found) (sorted (goal.at.returns-then-not-same_bytes-clause-tags_after c).After-sort_keys) (sorted-tags (goal.at.returns-then-not-same_bytes-clause-tags_after c).After-sort_keys)).1).1
-
-pub returns-then-not-same_bytes-clause-value : goal.returns-then-not-same_bytes-clause-value
-returns-then-not-same_bytes-clause-value c =
-    (stop (compared (goal.at.returns-then-not-same_bytes-clause-value c).Else-written-size)
-    (differs (compared (goal.at.returns-then-not-same_bytes-clause-value c).Else-written-size)
-    (ap (same (compared (goal.at.returns-then-not-same_bytes-clause-value c).Else-written-size)) (sym (copy_shows (goal.at.returns-then-not-same_bytes-clause-value c).Else-written-size)) ∙ sym c.same_bytes.ensures ∙ c.if-not-same_bytes.true))
-    (lent (goal.at.returns-then-not-same_bytes-clause-value c).After-collect-found) (lent-tags (goal.at.returns-then-not-same_bytes-clause-value c).After-collect-found) (sorted (goal.at.returns-then-not-same_bytes-clause-value c).After-sort_keys) (sorted-tags (goal.at.returns-then-not-same_bytes-clause-value c).After-sort_keys)).0
-
-pub returns-clause-keys_after : goal.returns-clause-keys_after
-returns-clause-keys_after c =
-    let agree = ap (same (compared (goal.at.returns-clause-keys_after c).Else-written-size)) (sym (copy_shows (goal.at.returns-clause-keys_after c).Else-written-size)) ∙ sym c.same_bytes.ensures ∙ c.if-not-same_bytes.false in
-    let one = is_one (compared (goal.at.returns-clause-keys_after c).Else-written-size) (order_right (goal.at.returns-clause-keys_after c).Else-not-is_within) (rise (goal.at.returns-clause-keys_after c).Else-not-is_rising) (omega (arith, few (goal.at.returns-clause-keys_after c).In-Keys, shown-long (goal.at.returns-clause-keys_after c).In-Keys)) (right (goal.at.returns-clause-keys_after c).In-Keys) agree in (λ _. sorted-is (goal.at.returns-clause-keys_after c).After-sort_keys)
-
-pub returns-clause-tags_after : goal.returns-clause-tags_after
-returns-clause-tags_after c =
-    let agree = ap (same (compared (goal.at.returns-clause-tags_after c).Else-written-size)) (sym (copy_shows (goal.at.returns-clause-tags_after c).Else-written-size)) ∙ sym c.same_bytes.ensures ∙ c.if-not-same_bytes.false in
-    let one = is_one (compared (goal.at.returns-clause-tags_after c).Else-written-size) (order_right (goal.at.returns-clause-tags_after c).Else-not-is_within) (rise (goal.at.returns-clause-tags_after c).Else-not-is_rising) (omega (arith, few (goal.at.returns-clause-tags_after c).In-Keys, shown-long (goal.at.returns-clause-tags_after c).In-Keys)) (right (goal.at.returns-clause-tags_after c).In-Keys) agree in λ _. tags_are (goal.at.returns-clause-tags_after c).Else-not-is_rising
-
-pub returns-clause-value : goal.returns-clause-value
-returns-clause-value c =
-    let agree = ap (same (compared (goal.at.returns-clause-value c).Else-written-size)) (sym (copy_shows (goal.at.returns-clause-value c).Else-written-size)) ∙ sym c.same_bytes.ensures ∙ c.if-not-same_bytes.false in
-    let one = is_one (compared (goal.at.returns-clause-value c).Else-written-size) (order_right (goal.at.returns-clause-value c).Else-not-is_within) (rise (goal.at.returns-clause-value c).Else-not-is_rising) (omega (arith, few (goal.at.returns-clause-value c).In-Keys, shown-long (goal.at.returns-clause-value c).In-Keys)) (right (goal.at.returns-clause-value c).In-Keys) agree in accepted (compared (goal.at.returns-clause-value c).Else-written-size) one (size (goal.at.returns-clause-value c).In-Keys) (sym (shown-long (goal.at.returns-clause-value c).In-Keys))
+pub returns : goal.returns
+returns c =
+    let at = goal.at.returns c in
+    let b = c.args.image.now in
+    let agree = ap (same b) (sym (copy_shows at.Else-written-size)) ∙ sym c.same_bytes.ensures ∙ c.if-not-same_bytes.false in
+    let one = is_one b (order_right at.Else-not-is_within) (rise at.Else-not-is_rising) (few_shown at.In_ok-n) (right at.In_ok-n) agree in
+    record {
+      value = accepted b one c.in_ok-n.n (sym (shown_long at.In_ok-n));
+      keys_after = λ _. sorted_is at.After-sort_keys;
+      tags_after = λ _. tags_are at.Else-not-is_rising;
+    }

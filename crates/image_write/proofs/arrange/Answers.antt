@@ -8,6 +8,7 @@ use Rattle.priority.specs.Priority.{priority_with}
 use Rattle.sorting.specs.ByWeight.{by_weight}
 use Rattle.sorting.proofs.ByWeight.{by_weight-length}
 use Rattle.treap.specs.Treap.{top}
+use Rattle.treap_columns.specs.declared.Columns.{Columns}
 use Rattle.treap_columns.specs.Positions.{InOrder, positions, weight_at}
 use Rattle.table_prepare.specs.Prepared.{Filled}
 use Rattle.table_prepare.proofs.Preparing.{room, many_weights, ranking_in_order}
@@ -15,51 +16,41 @@ use Rattle.image_write.proofs.Arranging.{ranked, filled_from, root_from, arrange
 use Rattle.image_write.proofs.arrange.Goals as goal
 use Rattle.image_write.proofs.arrange.Goals.{After-fill-root, After-prioritize}
 
-abbrev keys : After-prioritize → List ℕ
-keys p = p.args.keys.now
+-- the weights that the keys have from their priorities
+abbrev weights : After-prioritize → List ℕ
+weights p = take (length p.args.keys.now) p.prioritize.new.weights
 
-abbrev salt : After-prioritize → ℕ
-salt p = p.args.salt
+as_many : (p : After-prioritize) → length (weights p) ≡ length p.args.keys.now
+as_many p = many_weights p.args.salt p.args.keys.now p.prioritize.new.weights p.prioritize.ensures.weights_after
 
-abbrev priorities : After-prioritize → List ℕ
-priorities p = p.prioritize.new.weights
+ranking_room : (p : After-prioritize) → length p.args.keys.now ≤ length p.prioritize.new.ranking
+ranking_room p =
+    let keys = p.args.keys.now in
+    room p.prioritize.new.ranking (by_weight (map (priority_with p.args.salt) keys)) (length keys) p.prioritize.ensures.ranking_after
+    (by_weight-length (map (priority_with p.args.salt) keys) ∙ length-map keys (priority_with p.args.salt))
 
-abbrev ranking : After-prioritize → List ℕ
-ranking p = p.prioritize.new.ranking
-
-as_many : (p : After-prioritize) → length (take (length (keys p)) (priorities p)) ≡ length (keys p)
-as_many p = many_weights (salt p) (keys p) (priorities p) p.prioritize.ensures.weights_after
-
-ranking-room : (p : After-prioritize) → length (keys p) ≤ length (ranking p)
-ranking-room p =
-    room (ranking p) (by_weight (map (priority_with (salt p)) (keys p))) (length (keys p)) p.prioritize.ensures.ranking_after
-    (by_weight-length (map (priority_with (salt p)) (keys p)) ∙ length-map (keys p) (priority_with (salt p)))
-
-in_order : (p : After-prioritize) → InOrder (take (length (keys p)) (priorities p)) (take (length (take (length (keys p)) (priorities p))) (ranking p))
+in_order : (p : After-prioritize) → InOrder (weights p) (take (length (weights p)) p.prioritize.new.ranking)
 in_order p =
-    subst (λ (m : ℕ). InOrder (take (length (keys p)) (priorities p)) (take m (ranking p))) (sym (as_many p))
-    (ranking_in_order (salt p) (keys p) (priorities p) p.prioritize.ensures.weights_after (ranking p) p.prioritize.ensures.ranking_after)
+    subst (λ (m : ℕ). InOrder (weights p) (take m p.prioritize.new.ranking)) (sym (as_many p))
+    (ranking_in_order p.args.salt p.args.keys.now p.prioritize.new.weights p.prioritize.ensures.weights_after p.prioritize.new.ranking p.prioritize.ensures.ranking_after)
 
-abbrev order : After-fill-root → ℕ
-order f = f.args.order
+-- the columns and the root
+abbrev columns : After-fill-root → Columns
+columns f = let new = f.fill-root.new in record { left = new.left; right = new.right; leader = new.leader; rank = new.rank; count = new.count }
 
-filled : (f : After-fill-root) → Filled (order f) (map (priority_with (salt (goal.at.After-fill-root f).After-prioritize)) (keys (goal.at.After-fill-root f).After-prioritize)) f.fill-root.new.left f.fill-root.new.right f.fill-root.new.rank f.fill-root.new.count f.fill-root.new.leader
-filled f =
-    filled_from (order f) (salt (goal.at.After-fill-root f).After-prioritize) (keys (goal.at.After-fill-root f).After-prioritize) (priorities (goal.at.After-fill-root f).After-prioritize) f.prioritize.ensures.weights_after _ _ _ _ _ f.fill-root.ensures.filled
+filled : (f : After-fill-root) → Filled f.args.order (map (priority_with f.args.salt) f.args.keys.now) (columns f)
+filled f = filled_from f.args.order f.args.salt f.args.keys.now f.prioritize.new.weights f.prioritize.ensures.weights_after (columns f) f.fill-root.ensures.filled
 
-root_is : (f : After-fill-root) → f.fill-root.result ≡ top (weight_at (map (priority_with (salt (goal.at.After-fill-root f).After-prioritize)) (keys (goal.at.After-fill-root f).After-prioritize))) (positions (length (keys (goal.at.After-fill-root f).After-prioritize)))
-root_is f =
-    root_from (order f) (salt (goal.at.After-fill-root f).After-prioritize) (keys (goal.at.After-fill-root f).After-prioritize) (priorities (goal.at.After-fill-root f).After-prioritize) f.prioritize.ensures.weights_after f.fill-root.result f.fill-root.ensures.value
+root_is : (f : After-fill-root) → f.fill-root.result ≡ top (weight_at (map (priority_with f.args.salt) f.args.keys.now)) (positions (length f.args.keys.now))
+root_is f = root_from f.args.order f.args.salt f.args.keys.now f.prioritize.new.weights f.prioritize.ensures.weights_after f.fill-root.result f.fill-root.ensures.value
 
-pub fill-root-requires-clause-weights_in_bounds : goal.fill-root-requires-clause-weights_in_bounds
-fill-root-requires-clause-weights_in_bounds c =
-    let pre = c.requires in
-    let same = as_many (goal.at.fill-root-requires-clause-weights_in_bounds c).After-prioritize in (omega (arith, ranking-room (goal.at.fill-root-requires-clause-weights_in_bounds c).After-prioritize), in_order (goal.at.fill-root-requires-clause-weights_in_bounds c).After-prioritize)
+pub fill-root-requires-clause-in_order : goal.fill-root-requires-clause-in_order
+fill-root-requires-clause-in_order c = let p = (goal.at.fill-root-requires-clause-in_order c).After-prioritize in let same = as_many p in (omega (arith, ranking_room p), in_order p)
 
 pub weigh-requires-clause-ranked : goal.weigh-requires-clause-ranked
-weigh-requires-clause-ranked c =
-    ranked (order (goal.at.weigh-requires-clause-ranked c).After-fill-root) (salt (goal.at.weigh-requires-clause-ranked c).After-prioritize) (keys (goal.at.weigh-requires-clause-ranked c).After-prioritize) c.requires.keys _ _ _ _ _ (filled (goal.at.weigh-requires-clause-ranked c).After-fill-root) c.fill-root.result (root_is (goal.at.weigh-requires-clause-ranked c).After-fill-root)
+weigh-requires-clause-ranked c = let f = (goal.at.weigh-requires-clause-ranked c).After-fill-root in ranked c.args.order c.args.salt c.args.keys.now c.requires (columns f) (filled f) c.fill-root.result (root_is f)
 
 pub returns : goal.returns
 returns c =
-    arranged_from (order (goal.at.returns c).After-fill-root) (salt (goal.at.returns c).After-prioritize) (keys (goal.at.returns c).After-prioritize) _ _ _ _ _ c.fill-root.result (root_is (goal.at.returns c).After-fill-root) (filled (goal.at.returns c).After-fill-root) _ (priorities (goal.at.returns c).After-prioritize) _ (ranking (goal.at.returns c).After-prioritize) c.weigh.ensures c.by_weight.ensures
+    let f = (goal.at.returns c).After-fill-root in
+    arranged_from c.args.order c.args.salt c.args.keys.now (columns f) c.fill-root.result (root_is f) (filled f) _ c.prioritize.new.weights _ c.prioritize.new.ranking c.weigh.ensures c.by_weight.ensures

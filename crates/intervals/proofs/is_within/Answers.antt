@@ -1,10 +1,13 @@
 -- `intervals::is_within` meets its contract. Assumes nothing.
-use Rattle.std.proofs.Common.{sym}
-use Rattle.lists.proofs.Tests.{lies_below, lies_upto}
+use Rattle.std.proofs.Common.{ap₂, ◌&&◌, ◌∙◌}
+use Rattle.lists.specs.Lists.{lies}
+use Rattle.intervals.proofs.Chosen.{is_le_leb}
 use Rattle.intervals.proofs.is_within.Goals as goal
 
-pub returns-then-number-low : goal.returns-then-number-low
-returns-then-number-low c = sym (lies_below c.args.low c.args.high c.args.number c.if-number-low.true)
-
 pub returns : goal.returns
-returns c = sym (lies_upto c.args.low c.args.high c.args.number c.if-number-low.false)
+unfolding lies
+returns c =
+    let range = c.new.ensures in
+    let args = c.args in
+    c.contains.ensures.value
+    ∙ rw (range.start, range.end, range.exhausted) (ap₂ ◌&&◌ (is_le_leb args.low args.number) (is_le_leb args.number args.high))

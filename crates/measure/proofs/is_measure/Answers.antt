@@ -1,25 +1,24 @@
 -- `measure::is_measure` meets its contract. Assumes nothing.
-use Rattle.std.proofs.Common.{true, false, ◌≡◌, sym, ap, ◌∙◌, eq-eqb, ne_eqb, pos, w32}
+use Rattle.std.proofs.Common.{pos, sym, ap₂, ◌&&◌, ◌∙◌, eq-eqb, ne_eqb, w32}
 use mir.ValLaws.{to_z-of_z}
-use Rattle.lists.specs.Lists.{lies}
-use Rattle.measure.specs.Measure.{least_length, greatest_length, least_correction, greatest_correction, lies_z, is_measure}
+use Rattle.measure.specs.Measure.{least_correction, greatest_correction, lies_z, is_measure}
+use Rattle.measure.proofs.Integers.{is_le_le_z, equals_zero}
 use Rattle.measure.proofs.is_measure.Goals as goal
 
 pub returns-then-length-eq0 : goal.returns-then-length-eq0
 unfolding is_measure
-returns-then-length-eq0 c =
-    rw (eq-eqb c.args.length 0 c.if-length-eq0.true)
-    (c.is_between.ensures ∙ ap (lies_z (pos 0) (pos 0)) (to_z-of_z w32 c.args.correction c.ranges.correction))
+returns-then-length-eq0 c = rw (eq-eqb c.args.length 0 c.if-length-eq0.true) (equals_zero c.args.correction c.ranges.correction)
 
-pub returns-then-not-is_within : goal.returns-then-not-is_within
-unfolding is_measure
-returns-then-not-is_within c =
-    let short : lies least_length greatest_length c.args.length ≡ false = sym c.is_within.ensures ∙ c.if-not-is_within.true in
-    rw (ne_eqb c.args.length 0 c.if-length-eq0.false, short)
+pub returns-then-is_within : goal.returns-then-is_within
+unfolding is_measure lies_z
+returns-then-is_within c =
+    let range = c.new.ensures in
+    rw (ne_eqb c.args.length 0 c.if-length-eq0.false, sym c.is_within.ensures ∙ c.if-is_within.true)
+    (c.contains.ensures.value
+    ∙ rw (range.start, range.end, range.exhausted, to_z-of_z w32 c.args.correction c.ranges.correction)
+    (ap₂ ◌&&◌ (is_le_le_z least_correction c.args.correction) (is_le_le_z c.args.correction (pos greatest_correction))))
 
-pub returns : goal.returns
+pub returns-else-is_within : goal.returns-else-is_within
 unfolding is_measure
-returns c =
-    let long : lies least_length greatest_length c.args.length ≡ true = sym c.is_within.ensures ∙ c.if-not-is_within.false in
-    rw (ne_eqb c.args.length 0 c.if-length-eq0.false, long)
-    (c.is_between-2.ensures ∙ ap (lies_z least_correction (pos greatest_correction)) (to_z-of_z w32 c.args.correction c.ranges.correction))
+returns-else-is_within c =
+    rw (ne_eqb c.args.length 0 c.if-length-eq0.false, c.if-is_within.false, sym c.is_within.ensures ∙ c.if-is_within.false)

@@ -16,13 +16,13 @@ module _ (c : Start) where
   number = c.args.number
 
   known : Unsigned (number - greatest_correction) (number + greatest_correction) (pos number +ℤ c.args.correction)
-  known = together 4999 number c.args.correction c.requires.greatest_correction_le_number.0 c.requires.correction_value
+  known = together 4999 number c.args.correction c.requires.number_bounds.0 c.requires.correction_bounds
 
   machine : to_z w32 number +ℤ to_z w32 (of_z w32 c.args.correction) ≡ pos known.value
   machine = ap₂ ◌+ℤ◌ (to_z_pos w32 number (search rules)) (to_z-of_z w32 c.args.correction c.ranges.correction) ∙ known.is
 
   small : SFits w32 (pos known.value)
-  small = record { sfits = omega (arith, known.most, c.requires.greatest_correction_le_number) }
+  small = record { sfits = omega (arith, known.most, c.requires.number_bounds) }
 
   again : to_z w32 (of_z w32 (to_z w32 number +ℤ to_z w32 (of_z w32 c.args.correction))) ≡ pos known.value
   again = reads_back w32 _ (pos known.value) machine small
@@ -34,7 +34,7 @@ pub overflow_cast-result-2 : goal.overflow_cast-result-2
 overflow_cast-result-2 c =
     let s = (goal.at.overflow_cast-result-2 c).Start in
     subst (λ (y : ℤ). T (non_neg y) × Fits w64 (nat_abs y)) (sym (again s))
-    (tt, record { fits = omega (arith, (known s).most, c.requires.greatest_correction_le_number) })
+    (tt, record { fits = omega (arith, (known s).most, c.requires.number_bounds) })
 
 pub returns : goal.returns
 returns c = let s = (goal.at.returns c).Start in ap (λ (y : ℤ). pos (nat_abs y)) (again s) ∙ sym (known s).is

@@ -20,7 +20,7 @@ loop-i-init c = sym (overwrite_none c.args.tags.now 0)
 pub tag_of-requires : goal.tag_of-requires
 tag_of-requires c =
     ap (λ (z : ℤ). is_measure (record { length = get_or c.args.lengths.now c.loop-i.i 0; correction = z })) (same c.args.corrections.now c.loop-i.i (search rules))
-    ∙ entry_right c.args.lengths.now c.args.corrections.now c.requires.corrections_len.0 c.requires.corrections_value c.loop-i.i c.loop-i-test.true
+    ∙ entry_right c.args.lengths.now c.args.corrections.now c.requires.sizes_match.0 c.requires.all_measures c.loop-i.i c.loop-i-test.true
 
 pub loop-i-preserved : goal.loop-i-preserved
 loop-i-preserved c =
@@ -28,7 +28,7 @@ loop-i-preserved c =
     let lengths = c.args.lengths.now in
     let corrections = c.args.corrections.now in
     let before = c.args.tags.now in
-    let sizes = c.requires.corrections_len in
+    let sizes = c.requires.sizes_match in
     let result =
     c.tag_of.ensures ∙ ap (λ (z : ℤ). tag_of (record { length = get_or lengths at 0; correction = z })) (same corrections at (search rules))
     in
@@ -39,4 +39,4 @@ loop-i-preserved c =
 pub returns : goal.returns
 returns c =
     c.loop-i.invariant
-    ∙ tagged_all c.args.lengths.now c.args.corrections.now c.requires.corrections_len.0 c.args.tags.now c.requires.corrections_len.1 c.loop-i.i (omega arith)
+    ∙ tagged_all c.args.lengths.now c.args.corrections.now c.requires.sizes_match.0 c.args.tags.now c.requires.sizes_match.1 c.loop-i.i (omega arith)

@@ -25,8 +25,8 @@ pub returns-then-length-eq0 : goal.returns-then-length-eq0
 returns-then-length-eq0 c =
     sym (ap tag_of (length_zero (record { length = c.args.length; correction = c.args.correction }) c.requires c.if-length-eq0.true) ∙ unmeasured_tag)
 
-pub plus-requires-clause-correction_value : goal.plus-requires-clause-correction_value
-plus-requires-clause-correction_value c =
+pub plus-requires-clause-correction_bounds : goal.plus-requires-clause-correction_bounds
+plus-requires-clause-correction_bounds c =
     ap (lies_z least_correction (pos greatest_correction)) (to_z-of_z w32 c.args.correction c.ranges.correction)
     ∙ (measured (record { length = c.args.length; correction = c.args.correction }) (ne_eqb c.args.length 0 c.if-length-eq0.false) c.requires).1
 

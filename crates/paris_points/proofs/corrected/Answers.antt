@@ -19,12 +19,12 @@ module _ (c : Start) where
   same : to_z w32 (of_z w32 c.args.correction) ≡ c.args.correction
   same = to_z-of_z w32 c.args.correction c.ranges.correction
 
-pub plus-requires-clause-correction_value : goal.plus-requires-clause-correction_value
-plus-requires-clause-correction_value c =
+pub plus-requires-clause-correction_bounds : goal.plus-requires-clause-correction_bounds
+plus-requires-clause-correction_bounds c =
     let within = length_within (last c) c.requires in ap (lies_z least_correction (pos greatest_correction)) (same c) ∙ correction_near (last c) c.requires
 
-pub plus-requires-clause-greatest_correction_le_number : goal.plus-requires-clause-greatest_correction_le_number
-plus-requires-clause-greatest_correction_le_number c =
+pub plus-requires-clause-number_bounds : goal.plus-requires-clause-number_bounds
+plus-requires-clause-number_bounds c =
     let within = length_within (last c) c.requires in omega arith
 
 pub returns : goal.returns

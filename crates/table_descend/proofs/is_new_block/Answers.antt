@@ -1,53 +1,58 @@
 -- `table_descend::is_new_block` meets its contract. Assumes nothing.
+use mathlib.Core.Path.{◌≡◌, subst}
+use Prim.Native.Nat.{ℕ}
 use native.Mathlib.Omega.{arith}
+use Rattle.treap_structure.proofs.Blocks.{block_level}
+use Rattle.table.specs.Contents.{keys_in, priority_in}
 use Rattle.table.specs.Table.{contents_of}
-use Rattle.table.proofs.Soundness.{WordSized, sound_valid}
+use Rattle.table.proofs.Soundness.{sound_valid}
 use Rattle.table_descend.proofs.Deciding.{same_level, not_along, same_next, no_next, by_level}
-use Rattle.table_descend.proofs.WayDown.{link_held}
+use Rattle.table_descend.proofs.WayDown.{link_held, on_its_level}
 use Rattle.table_descend.proofs.is_new_block.Goals as goal
-use Rattle.table_descend.proofs.is_new_block.Goals.{After-shared_slice_known-1}
 
--- the words lent are 64-bit numbers
-sized : (p : After-shared_slice_known-1) → WordSized p.args.table.now
-sized p i = omega (arith, p.type_inv.table i)
-
-pub returns-then-below-level : goal.returns-then-below-level
-returns-then-below-level c =
+pub returns-then-next-at : goal.returns-then-next-at
+returns-then-next-at c =
     let args = c.args in
-    same_level (contents_of args.many args.table.now) args.at args.low args.other args.level args.below c.if-below-level.true
+    same_level (contents_of args.many args.table.now) args.at.key args.low args.other args.at.level args.next.level c.if-next-at.true
 
 pub returns-then-other-low : goal.returns-then-other-low
 returns-then-other-low c =
     let args = c.args in
-    not_along (contents_of args.many args.table.now) args.at args.low args.other args.level args.below c.if-below-level.false c.if-other-low.true
+    not_along (contents_of args.many args.table.now) args.at.key args.low args.other args.at.level args.next.level c.if-next-at.false c.if-other-low.true
 
 pub returns-then-there-next : goal.returns-then-there-next
 returns-then-there-next c =
     let args = c.args in
-    same_next (contents_of args.many args.table.now) args.at args.low args.other args.level args.below c.if-below-level.false c.if-other-low.false
-    c.next_of-there.result c.next_of-there.ensures args.next c.if-there-next.true c.requires.next_value
+    let next = c.requires.2 in
+    same_next (contents_of args.many args.table.now) args.at.key args.low args.other args.at.level args.next.level c.if-next-at.false c.if-other-low.false
+    c.next_of-there.result c.next_of-there.ensures args.next.key c.if-there-next.true
+    (on_its_level _ _ _ (λ e. omega (arith, next.in_slot.positive)) next.level_is)
 
 pub returns-then-there-eq0 : goal.returns-then-there-eq0
 returns-then-there-eq0 c =
     let args = c.args in
-    no_next (contents_of args.many args.table.now) args.at args.low args.other args.level args.below c.if-below-level.false c.if-other-low.false
+    no_next (contents_of args.many args.table.now) args.at.key args.low args.other args.at.level args.next.level c.if-next-at.false c.if-other-low.false
     c.next_of-there.result c.next_of-there.ensures c.if-there-eq0.true
 
-pub slot_reached-its_slot-requires : goal.slot_reached-its_slot-requires
-slot_reached-its_slot-requires c =
+pub place_of-requires : goal.place_of-requires
+place_of-requires c =
     let args = c.args in
-    let pre = c.requires.many_nonzero in
-    let valid = sound_valid args.many args.table.now pre.1.sound (sized (goal.at.slot_reached-its_slot-requires c).After-shared_slice_known-1) in (
-      pre.0,
-      pre.1.few,
-      pre.1.long,
-      pre.1.sound,
-      link_held args.many (contents_of args.many args.table.now) valid args.at pre.2 args.other c.next_of-there.result c.next_of-there.ensures c.if-there-eq0.false,
-      pre.3,
+    let here = c.requires.1 in
+    let valid = sound_valid args.many args.table.now here.in_slot.sound (λ i. omega (arith, c.type_inv.table i)) in (
+      c.requires.0,
+      here.in_slot.few,
+      here.in_slot.long,
+      here.in_slot.sound,
+      link_held args.many (contents_of args.many args.table.now) valid args.at.key here.held args.other c.next_of-there.result c.next_of-there.ensures c.if-there-eq0.false,
     )
 
 pub returns : goal.returns
 returns c =
     let args = c.args in
-    by_level (contents_of args.many args.table.now) args.at args.low args.other args.level args.below c.if-below-level.false c.if-other-low.false
-    c.next_of-there.result c.next_of-there.ensures c.if-there-eq0.false c.level_of.result c.level_of.ensures
+    let shown = contents_of args.many args.table.now in
+    let there = c.place_of in
+    let its_level : there.result.level ≡ block_level shown.order (priority_in shown) (keys_in shown) c.next_of-there.result =
+    subst (λ (k : ℕ). there.result.level ≡ block_level shown.order (priority_in shown) (keys_in shown) k) there.ensures.its_key there.ensures.placed.level_is
+    in
+    by_level shown args.at.key args.low args.other args.at.level args.next.level c.if-next-at.false c.if-other-low.false
+    c.next_of-there.result c.next_of-there.ensures c.if-there-eq0.false there.result.level its_level

@@ -1,4 +1,5 @@
 -- `table_encode::emit` meets its contract. The loop's invariant: the first s slots are written. Assumes nothing.
+use Rattle.treap_columns.specs.Lent.{lists_of}
 use mathlib.Core.List.{List, [], ◌∷◌, ◌++◌, flat_map}
 use mathlib.Core.Path.{◌≡◌, refl, sym, ap, ◌∙◌, subst₂}
 use native.Mathlib.Numerals.{add-one}
@@ -7,7 +8,8 @@ use native.Mathlib.Omega.{arith}
 use lib.ListN.{length, set, length-set}
 use Rattle.lists.specs.Lists.{overwrite}
 use Rattle.table.specs.Layout.{slot_start, table_words}
-use Rattle.table_encode.specs.Encode.{Columns, slot_at, words_of}
+use Rattle.treap_columns.specs.declared.Columns.{Columns}
+use Rattle.table_encode.specs.Encode.{slot_at, words_of}
 use Rattle.table_encode.proofs.Emitting.{Emitted, emitted_start, emitted_next, emitted_end, header_stores}
 use Rattle.table_encode.proofs.emit.Goals as goal
 use Rattle.table_encode.proofs.emit.Goals.{After-key_at}
@@ -23,7 +25,7 @@ pub loop-s-preserved : goal.loop-s-preserved
 loop-s-preserved c =
     let args = c.args in
     let loop = c.loop-s in
-    let columns : Columns = record { left = args.left.now; right = args.right.now; leader = args.leader.now; rank = args.rank.now; count = args.count.now } in
+    let columns : Columns = (lists_of args.columns) in
     let lent = set (set (set (set args.table.now 0 args.order) 1 (length args.keys.now)) 2 c.key_at.result) 3 args.salt in (
       refl,
       subst₂ (Emitted args.keys.now args.tags.now columns args.slots.now lent)
@@ -35,8 +37,8 @@ pub returns : goal.returns
 unfolding words_of
 returns c =
     let args = c.args in
-    let words = flat_map (slot_at args.keys.now args.tags.now (record { left = args.left.now; right = args.right.now; leader = args.leader.now; rank = args.rank.now; count = args.count.now })) args.slots.now in
+    let words = flat_map (slot_at args.keys.now args.tags.now (lists_of args.columns)) args.slots.now in
     let long = c.requires.table_len in
-    emitted_end args.keys.now args.tags.now (record { left = args.left.now; right = args.right.now; leader = args.leader.now; rank = args.rank.now; count = args.count.now }) args.slots.now (set (set (set (set args.table.now 0 args.order) 1 (length args.keys.now)) 2 c.key_at.result) 3 args.salt) (start-long (goal.at.returns c).After-key_at) c.loop-s.table c.loop-s.s c.loop-s.invariant.1 (omega arith)
+    emitted_end args.keys.now args.tags.now (lists_of args.columns) args.slots.now (set (set (set (set args.table.now 0 args.order) 1 (length args.keys.now)) 2 c.key_at.result) 3 args.salt) (start-long (goal.at.returns c).After-key_at) c.loop-s.table c.loop-s.s c.loop-s.invariant.1 (omega arith)
     ∙ ap (λ (xs : List ℕ). xs ++ words) (header_stores args.table.now args.order (length args.keys.now) c.key_at.result args.salt (omega arith))
     ∙ ap (λ (z : ℕ). (args.order ∷ length args.keys.now ∷ z ∷ args.salt ∷ []) ++ words) c.key_at.ensures

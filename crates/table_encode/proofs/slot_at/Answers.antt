@@ -1,11 +1,14 @@
 -- `table_encode::slot_at` meets its contract. Assumes nothing.
+use Rattle.treap_columns.specs.Lent.{lists_of}
 use Rattle.table_encode.proofs.Stores.{slot_none, slot_some}
 use Rattle.table_encode.proofs.slot_at.Goals as goal
 
 pub returns-then-position-eq0 : goal.returns-then-position-eq0
 returns-then-position-eq0 c =
     let args = c.args in
-    slot_none args.keys.now args.tags.now (record { left = args.left.now; right = args.right.now; leader = args.leader.now; rank = args.rank.now; count = args.count.now }) args.position c.if-position-eq0.true
+    let (key, (left, (right, (leader, (rank, (count, (long, stored))))))) = c.default.ensures in
+    rw (key, left, right, leader, rank, count, long, stored)
+    (slot_none args.keys.now args.tags.now (lists_of args.columns) args.position c.if-position-eq0.true)
 
 pub returns : goal.returns
 returns c =
@@ -14,5 +17,5 @@ returns c =
     let right = c.key_at-r in
     let leader = c.key_at-d in
     let long = c.length_in in
-    slot_some args.keys.now args.tags.now (record { left = args.left.now; right = args.right.now; leader = args.leader.now; rank = args.rank.now; count = args.count.now }) args.position left.result right.result leader.result long.result c.stored_in.result
+    slot_some args.keys.now args.tags.now (lists_of args.columns) args.position left.result right.result leader.result long.result c.stored_in.result
     c.if-position-eq0.false left.ensures right.ensures leader.ensures long.ensures c.stored_in.ensures

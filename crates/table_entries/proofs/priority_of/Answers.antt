@@ -4,4 +4,4 @@ use Rattle.table_entries.proofs.priority_of.Goals as goal
 
 pub returns : goal.returns
 unfolding contents_of
-returns c = c.priority_from.ensures
+returns c = c.priority.ensures

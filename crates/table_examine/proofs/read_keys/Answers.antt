@@ -23,34 +23,34 @@ collected p =
       keys_are = p.collect-n.ensures.keys_after;
       tags_are = p.collect-n.ensures.tags_after;
       count = p.collect-n.ensures.value;
-      room = omega (arith, few p, p.requires.many_in_bounds_2.0);
-      more = omega (arith, few p, p.requires.many_in_bounds_2.4);
+      room = omega (arith, few p, p.requires.many_fit.0);
+      more = omega (arith, few p, p.requires.many_fit.1);
     }
 
 pub sort_keys-requires-clause-n_in_bounds : goal.sort_keys-requires-clause-n_in_bounds
 sort_keys-requires-clause-n_in_bounds c =
     let pre = c.requires in
-    let had = collected (goal.at.sort_keys-requires-clause-n_in_bounds c).After-collect-n in omega (arith, few (goal.at.sort_keys-requires-clause-n_in_bounds c).After-collect-n, keys_long had, tags_long had, pre.many_in_bounds, pre.many_in_bounds_2)
+    let had = collected (goal.at.sort_keys-requires-clause-n_in_bounds c).After-collect-n in omega (arith, few (goal.at.sort_keys-requires-clause-n_in_bounds c).After-collect-n, keys_long had, tags_long had, pre.many_in_bounds, pre.many_fit)
 
 pub sort_keys-requires-clause-n_in_bounds_2 : goal.sort_keys-requires-clause-n_in_bounds_2
 sort_keys-requires-clause-n_in_bounds_2 c =
     let pre = c.requires in
-    let had = collected (goal.at.sort_keys-requires-clause-n_in_bounds_2 c).After-collect-n in omega (arith, few (goal.at.sort_keys-requires-clause-n_in_bounds_2 c).After-collect-n, keys_long had, tags_long had, pre.many_in_bounds, pre.many_in_bounds_2)
+    let had = collected (goal.at.sort_keys-requires-clause-n_in_bounds_2 c).After-collect-n in omega (arith, few (goal.at.sort_keys-requires-clause-n_in_bounds_2 c).After-collect-n, keys_long had, tags_long had, pre.many_in_bounds, pre.many_fit)
 
 pub sort_keys-requires-clause-n_in_bounds_3 : goal.sort_keys-requires-clause-n_in_bounds_3
 sort_keys-requires-clause-n_in_bounds_3 c =
     let pre = c.requires in
-    let had = collected (goal.at.sort_keys-requires-clause-n_in_bounds_3 c).After-collect-n in omega (arith, few (goal.at.sort_keys-requires-clause-n_in_bounds_3 c).After-collect-n, keys_long had, tags_long had, pre.many_in_bounds, pre.many_in_bounds_2)
+    let had = collected (goal.at.sort_keys-requires-clause-n_in_bounds_3 c).After-collect-n in omega (arith, few (goal.at.sort_keys-requires-clause-n_in_bounds_3 c).After-collect-n, keys_long had, tags_long had, pre.many_in_bounds, pre.many_fit)
 
 pub sort_keys-requires-clause-n_in_bounds_4 : goal.sort_keys-requires-clause-n_in_bounds_4
 sort_keys-requires-clause-n_in_bounds_4 c =
     let pre = c.requires in
-    let had = collected (goal.at.sort_keys-requires-clause-n_in_bounds_4 c).After-collect-n in omega (arith, few (goal.at.sort_keys-requires-clause-n_in_bounds_4 c).After-collect-n, keys_long had, tags_long had, pre.many_in_bounds, pre.many_in_bounds_2)
+    let had = collected (goal.at.sort_keys-requires-clause-n_in_bounds_4 c).After-collect-n in omega (arith, few (goal.at.sort_keys-requires-clause-n_in_bounds_4 c).After-collect-n, keys_long had, tags_long had, pre.many_in_bounds, pre.many_fit)
 
 pub sort_keys-requires-clause-n_le_most_slots : goal.sort_keys-requires-clause-n_le_most_slots
 sort_keys-requires-clause-n_le_most_slots c =
     let pre = c.requires in
-    let had = collected (goal.at.sort_keys-requires-clause-n_le_most_slots c).After-collect-n in omega (arith, few (goal.at.sort_keys-requires-clause-n_le_most_slots c).After-collect-n, keys_long had, tags_long had, pre.many_in_bounds, pre.many_in_bounds_2)
+    let had = collected (goal.at.sort_keys-requires-clause-n_le_most_slots c).After-collect-n in omega (arith, few (goal.at.sort_keys-requires-clause-n_le_most_slots c).After-collect-n, keys_long had, tags_long had, pre.many_in_bounds, pre.many_fit)
 
 pub returns-clause-keys_after : goal.returns-clause-keys_after
 unfolding contents_read

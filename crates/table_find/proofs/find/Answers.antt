@@ -1,33 +1,24 @@
 -- `table_find::find` meets its contract: the search is its two scans. Assumes nothing.
 use mathlib.Core.Path.{◌≡◌, sym, ap, ◌∙◌, subst}
 use Prim.Native.Nat.{ℕ, ◌<◌}
+use Rattle.std.specs.Prelude.{Option, Some, None}
+use Rattle.std.specs.Option.{MatchOption}
+use Rattle.std.proofs.Common.{rules}
 use Rattle.priority.proofs.Bounds.{home_of_below}
-use Rattle.table_find.specs.Find.{searched, scanned}
-use Rattle.table_find.specs.declared.Found.{Found}
+use Rattle.table_find.specs.Find.{scanned}
 use Rattle.table_find.proofs.Scanning.{or_else, search_is_two_scans}
 use Rattle.table_find.proofs.find.Goals as goal
-use Rattle.table_find.proofs.find.Goals.{After-home-home, After-scan}
 
-home-within : (p : After-home-home) → p.home-home.result < p.args.many
-home-within p = subst (λ (n : ℕ). n < p.args.many) (sym p.home-home.ensures) (home_of_below _ p.requires.0)
+-- What a scan gave, or else what the second one, of which a fact is known, gives.
+joined : (first other result : Option ℕ) (P : Type 0) → MatchOption first P (λ slot. result ≡ Some slot) → (P → result ≡ other) → result ≡ or_else first other
+joined (Some slot) other result P told second = told
+joined None other result P told second = second told
 
--- What a scan from slot 0 up to the home gives.
-abbrev below : After-scan → Found
-below p = scanned p.args.table.now 0 p.home-home.result p.args.key
-
--- The search's answer is what the first scan gave, or else what that one gives.
-answered : (p : After-scan) → let args = p.args in
-    searched args.many args.table.now args.key args.priority ≡ or_else p.scan.result (below p)
-answered p =
-    let args = p.args in
-    search_is_two_scans args.many args.table.now args.key args.priority p.home-home.result (home-within (goal.at.After-scan p).After-home-home)
-    p.home-home.ensures
-    ∙ ap (λ (r : Found). or_else r (below p)) (sym p.scan.ensures)
-
-pub returns-in-At : goal.returns-in-At
-returns-in-At c =
-    sym (answered (goal.at.returns-in-At c).After-scan ∙ ap (λ (r : Found). or_else r (below (goal.at.returns-in-At c).After-scan)) c.in-At.is)
-
-pub returns-in-Nowhere : goal.returns-in-Nowhere
-returns-in-Nowhere c =
-    c.scan-in-Nowhere.ensures ∙ sym (answered (goal.at.returns-in-Nowhere c).After-scan ∙ ap (λ (r : Found). or_else r (below (goal.at.returns-in-Nowhere c).After-scan)) c.in-Nowhere.is)
+pub returns : goal.returns
+returns c =
+    let args = c.args in
+    let home = c.home.result in
+    let within : home < args.many = subst (λ (n : ℕ). n < args.many) (sym c.home.ensures) (home_of_below _ c.requires.0) in
+    joined c.scan.result (scanned args.table.now 0 home args.key) c.or_else.result _ c.or_else.ensures (λ told. search rules)
+    ∙ ap (λ (r : Option ℕ). or_else r (scanned args.table.now 0 home args.key)) c.scan.ensures
+    ∙ sym (search_is_two_scans args.many args.table.now args.key args.priority home within c.home.ensures)

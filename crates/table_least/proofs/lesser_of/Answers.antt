@@ -1,32 +1,30 @@
 -- `table_least::lesser_of` meets its contract. Assumes nothing.
-use mathlib.Core.Path.{sym, ◌∙◌}
-use Rattle.table_least.proofs.Least.{no_key, outside, first_one, less_one, no_less}
+use mathlib.Core.Bool.{false}
+use mathlib.Core.Logic.{◌⊎◌, inl, inr}
+use mathlib.Core.Path.{◌≡◌, sym, ◌∙◌}
+use Rattle.lists.specs.Lists.{lies}
+use Rattle.table_least.proofs.Least.{left_out, first_found_key, lesser_found}
 use Rattle.table_least.proofs.lesser_of.Goals as goal
-use Rattle.table_least.proofs.lesser_of.Goals.{then-least-eq0-via-else-least-eq0+then-key-least, then-least-eq0-via-then-least-eq0}
+use Rattle.table_least.proofs.lesser_of.Goals.{then-key-eq0-via-then-key-eq0, then-key-eq0-via-else-key-eq0+then-not-is_within}
 
 pub returns-then-key-eq0 : goal.returns-then-key-eq0
 returns-then-key-eq0 c =
     let args = c.args in
-    no_key args.low args.high args.least args.key c.if-key-eq0.true
-
-pub returns-then-not-is_within : goal.returns-then-not-is_within
-returns-then-not-is_within c =
-    let args = c.args in
-    outside args.low args.high args.least args.key c.if-key-eq0.false (sym c.is_within.ensures ∙ c.if-not-is_within.true)
-
-pub returns-then-least-eq0 : goal.returns-then-least-eq0
-returns-then-least-eq0 c =
-    let args = c.args in
-    let some = c.if-key-eq0.false in
-    let within = sym c.is_within.ensures ∙ c.if-not-is_within.false in
-    elim c.then-least-eq0.branch [
-      | then-least-eq0-via-then-least-eq0 w ↦ first_one args.low args.high args.least args.key some within w.if-least-eq0.true
-      | then-least-eq0-via-else-least-eq0+then-key-least w ↦ less_one args.low args.high args.least args.key some within (w.if-key-least.true)
+    let out : (args.key ≡ 0) ⊎ (lies args.low args.high args.key ≡ false) =
+    elim c.then-key-eq0.branch [
+      | then-key-eq0-via-then-key-eq0 w ↦ inl w.if-key-eq0.true
+      | then-key-eq0-via-else-key-eq0+then-not-is_within w ↦ inr (sym w.is_within.ensures ∙ w.if-not-is_within.true)
     ]
+    in
+    λ n. left_out args.low args.high n args.key args.least out
 
-pub returns : goal.returns
-returns c =
+pub returns-in-Some : goal.returns-in-Some
+returns-in-Some c =
     let args = c.args in
-    let some = c.if-key-eq0.false in
-    let within = sym c.is_within.ensures ∙ c.if-not-is_within.false in
-    no_less args.low args.high args.least args.key some within c.if-least-eq0.false (c.if-key-least.false)
+    λ n. lesser_found args.low args.high n args.key c.if-key-eq0.false (sym c.is_within.ensures ∙ c.if-not-is_within.false)
+    args.least c.in-Some.other c.min.result c.in-Some.is c.min.ensures
+
+pub returns-in-None : goal.returns-in-None
+returns-in-None c =
+    let args = c.args in
+    λ n. first_found_key args.low args.high n args.key c.if-key-eq0.false (sym c.is_within.ensures ∙ c.if-not-is_within.false) args.least c.in-None.is

@@ -20,17 +20,17 @@ ready c =
     let n = length ws in
     let lefts = column_length (left_link (weight_at ws) (positions n)) n in
     let rights = column_length (right_link (weight_at ws) (positions n)) n in
-    let left_long = as_long c.links-root.new.left c.args.left.now (left_column ws n) n c.links-root.ensures.left_after lefts c.requires.weights_in_bounds_2.0 in
-    let right_long = as_long c.links-root.new.right c.args.right.now (right_column ws n) n c.links-root.ensures.right_after rights c.requires.weights_in_bounds_2.1 in
+    let left_long = as_long c.links-root.new.left c.args.left.now (left_column ws n) n c.links-root.ensures.left_after lefts (omega arith) in
+    let right_long = as_long c.links-root.new.right c.args.right.now (right_column ws n) n c.links-root.ensures.right_after rights (omega arith) in
     record {
-      wide = c.requires.le_order.0;
-      narrow = c.requires.le_order.1;
+      wide = c.requires.order_in_range.0;
+      narrow = c.requires.order_in_range.1;
       whole = refl;
-      few = c.requires.le_order.2;
-      order_room = c.requires.weights_in_bounds.0;
+      few = c.requires.order_in_range.2;
+      order_room = c.requires.in_order.0;
       left_room = omega arith;
       right_room = omega arith;
-      in_order = c.requires.weights_in_bounds.1;
+      in_order = c.requires.in_order.1;
       lefts = starts_with c.links-root.new.left c.args.left.now (left_column ws n) n c.links-root.ensures.left_after lefts;
       rights = starts_with c.links-root.new.right c.args.right.now (right_column ws n) n c.links-root.ensures.right_after rights;
     }

@@ -8,7 +8,7 @@ use Rattle.priority.specs.Priority.{priority_with}
 use Rattle.sorting.specs.ByWeight.{by_weight}
 use Rattle.sorting.proofs.ByWeight.{by_weight-length}
 use Rattle.treap_columns.specs.Positions.{InOrder}
-use Rattle.table_prepare.proofs.Preparing.{room, many_weights, ranking_in_order}
+use Rattle.table_prepare.proofs.Preparing.{room, many_weights, ranking_in_order, prepared_from}
 use Rattle.table_prepare.proofs.prepare.Goals as goal
 use Rattle.table_prepare.proofs.prepare.Goals.{After-prioritize}
 
@@ -27,9 +27,9 @@ ordered p = ranking_in_order p.args.salt p.args.keys.now p.prioritize.new.weight
 pub place-requires-clause-in_order : goal.place-requires-clause-in_order
 place-requires-clause-in_order c = ordered (goal.at.place-requires-clause-in_order c).After-prioritize
 
-pub fill-requires-clause-weights_in_bounds : goal.fill-requires-clause-weights_in_bounds
-fill-requires-clause-weights_in_bounds c =
-    let p = (goal.at.fill-requires-clause-weights_in_bounds c).After-prioritize in
+pub fill-requires-clause-in_order : goal.fill-requires-clause-in_order
+fill-requires-clause-in_order c =
+    let p = (goal.at.fill-requires-clause-in_order c).After-prioritize in
     let n = length c.args.keys.now in
     let weights = take n c.prioritize.new.weights in
     let same : length weights ≡ n = many p in
@@ -37,3 +37,7 @@ fill-requires-clause-weights_in_bounds c =
       omega arith,
       subst (λ (m : ℕ). InOrder weights (take m c.prioritize.new.ranking)) (sym same) (ordered p),
     )
+
+pub returns-clause-prepared : goal.returns-clause-prepared
+returns-clause-prepared c =
+    prepared_from c.args.salt c.args.keys.now c.prioritize.new.weights c.prioritize.ensures.weights_after c.args.order (record { left = c.fill.new.left; right = c.fill.new.right; leader = c.fill.new.leader; rank = c.fill.new.rank; count = c.fill.new.count }) _ c.args.many c.fill.result c.fill.ensures.value c.fill.ensures.filled c.place.ensures

@@ -7,10 +7,10 @@ use lib.ListN.{length, get_or, length-set}
 use Rattle.treap.specs.Slots.{first_empty}
 use Rattle.table_slots.proofs.Skipping.{taken_from, ends_here, step_nearer, skips_shortened}
 use Rattle.table_slots.proofs.first_empty.Goals as goal
-use Rattle.table_slots.proofs.first_empty.Goals.{After-slice_known-1}
+use Rattle.table_slots.proofs.first_empty.Goals.{In-loop-at}
 
 -- a turn: its slot is taken, and its skip leads nearer to the first empty one
-module _ (c : After-slice_known-1) where
+module _ (c : In-loop-at) where
   abbrev slots : List ℕ
   slots = c.args.slots.now
 
@@ -21,16 +21,16 @@ module _ (c : After-slice_known-1) where
   nearer = step_nearer slots c.loop-at.skip c.loop-at.invariant.3 c.loop-at.at c.loop-at.invariant.0 c.loop-at-test.true (omega (arith, c.loop-at.invariant.1, c.requires.home_in_bounds.1))
 
 pub bounds-skip-next : goal.bounds-skip-next
-bounds-skip-next c = omega (arith, nearer (goal.at.bounds-skip-next c).After-slice_known-1, c.loop-at.invariant.3.room)
+bounds-skip-next c = omega (arith, nearer (goal.at.bounds-skip-next c).In-loop-at, c.loop-at.invariant.3.room)
 
 pub loop-at-smaller : goal.loop-at-smaller
-loop-at-smaller c = (nearer (goal.at.loop-at-smaller c).After-slice_known-1).2
+loop-at-smaller c = (nearer (goal.at.loop-at-smaller c).In-loop-at).2
 
 pub loop-at-preserved : goal.loop-at-preserved
 loop-at-preserved c =
     let loop = c.loop-at in
-    let (inside, same, _) = nearer (goal.at.loop-at-preserved c).After-slice_known-1 in
-    (inside, same ∙ loop.invariant.1, simp length-set loop.invariant.2, skips_shortened (slots (goal.at.loop-at-preserved c).After-slice_known-1) loop.skip loop.invariant.3 loop.at loop.invariant.0 c.loop-at-test.true inside)
+    let (inside, same, _) = nearer (goal.at.loop-at-preserved c).In-loop-at in
+    (inside, same ∙ loop.invariant.1, simp length-set loop.invariant.2, skips_shortened (slots (goal.at.loop-at-preserved c).In-loop-at) loop.skip loop.invariant.3 loop.at loop.invariant.0 c.loop-at-test.true inside)
 
 pub returns-clause-value : goal.returns-clause-value
 returns-clause-value c =

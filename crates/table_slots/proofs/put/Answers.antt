@@ -7,10 +7,10 @@ use lib.ListN.{length}
 use Rattle.table_slots.proofs.Probing.{after, after_last, after_other}
 use Rattle.table_slots.proofs.Skipping.{skips_taken}
 use Rattle.table_slots.proofs.put.Goals as goal
-use Rattle.table_slots.proofs.put.Goals.{After-row_known-1, else-next-slots, then-next-slots}
+use Rattle.table_slots.proofs.put.Goals.{Joined-next-slots, else-next-slots, then-next-slots}
 
 -- where the skip is written: the slot found, which is there, and the slot after it
-module _ (c : After-row_known-1) where
+module _ (c : Joined-next-slots) where
   abbrev slots : List ℕ
   slots = c.args.slots.now
 
@@ -24,5 +24,5 @@ module _ (c : After-row_known-1) where
         | else-next-slots w ↦ w.next-is ∙ sym (after_other (length slots) c.first_empty-at.result w.if-next-slots.false)
       ]
 
-pub returns-clause-skips_2 : goal.returns-clause-skips_2
-returns-clause-skips_2 c = rw (goes_on c) (skips_taken (slots c) _ c.first_empty-at.ensures.skips_2 c.first_empty-at.result c.args.position (inside c) c.requires.home_in_bounds.3)
+pub returns-clause-skips_after : goal.returns-clause-skips_after
+returns-clause-skips_after c = let p = (goal.at.returns-clause-skips_after c).Joined-next-slots in rw (goes_on p) (skips_taken (slots p) _ c.first_empty-at.ensures.skips_after c.first_empty-at.result c.args.position (inside p) c.requires.home_in_bounds.3)

@@ -1,15 +1,10 @@
--- `text::decimal_length` meets its contract. The loop's invariant: the digits counted beyond the first, with those of what is left,
--- are those of the number. Assumes nothing.
-use native.Mathlib.Omega.{arith}
-use borrow.Author.Rules.{rules}
-use Rattle.text.proofs.Decimal.{decimal_single, decimal_longer, decimal_fits}
+-- `text::decimal_length` meets its contract. Assumes nothing.
+use mathlib.Core.Path.{ap, ◌∙◌}
+use Prim.Native.Nat.{ℕ, ◌+◌}
+use Rattle.text.proofs.Decimal.{decimal_reaches}
 use Rattle.text.proofs.decimal_length.Goals as goal
 
-pub overflow_add-many : goal.overflow_add-many
-overflow_add-many c = omega (arith, decimal_fits 19 c.args.n (search rules))
-
-pub loop-rest-preserved : goal.loop-rest-preserved
-loop-rest-preserved c = omega (arith, decimal_longer c.loop-rest.rest c.loop-rest-test.true)
-
-pub returns : goal.returns
-returns c = omega (arith, decimal_single c.loop-rest.rest c.loop-rest-test.false)
+pub returns-clause-value : goal.returns-clause-value
+returns-clause-value c =
+    let power = c.checked_ilog10 in
+    ap (λ (tens : ℕ). tens + 1) c.unwrap_or.ensures ∙ decimal_reaches c.args.n power.result power.ensures.none power.ensures.power_le power.ensures.next_power_gt

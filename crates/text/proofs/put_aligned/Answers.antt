@@ -29,7 +29,7 @@ blank c = spaces (c.args.width - c.decimal_length.result)
 at_first : (c : After-decimal_length) → Left (goal.at.After-decimal_length c).Start (blank c ++ number (goal.at.After-decimal_length c).Start) c.args.output.now c.args.at
 unfolding right_aligned
 at_first c =
-    subst (λ (long : ℕ). Left (goal.at.After-decimal_length c).Start (spaces (c.args.width - long) ++ number (goal.at.After-decimal_length c).Start) c.args.output.now c.args.at) (sym c.decimal_length.ensures) (ongoing_none _ _ _)
+    subst (λ (long : ℕ). Left (goal.at.After-decimal_length c).Start (spaces (c.args.width - long) ++ number (goal.at.After-decimal_length c).Start) c.args.output.now c.args.at) (sym c.decimal_length.ensures.value) (ongoing_none _ _ _)
 
 aligned : (c : After-put_spaces-start) → Left (goal.at.After-put_spaces-start c).Start (number (goal.at.After-put_spaces-start c).Start) c.put_spaces-start.new.output c.put_spaces-start.result
 aligned c = ongoing_next (room (goal.at.After-put_spaces-start c).Start) (blank (goal.at.After-put_spaces-start c).After-decimal_length) (number (goal.at.After-put_spaces-start c).Start) (at_first (goal.at.After-put_spaces-start c).After-decimal_length) c.put_spaces-start.ensures

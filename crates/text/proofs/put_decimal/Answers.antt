@@ -13,5 +13,5 @@ returns c =
     let counted = c.decimal_length in
     let args = c.args in
     subst (λ (text : List ℕ). Written args.output.now args.at text call.new.output call.result)
-    (ap (λ (many : ℕ). digits 10 many args.n) counted.ensures ∙ sym (decimal_digits args.n))
+    (ap (λ (many : ℕ). digits 10 many args.n) counted.ensures.value ∙ sym (decimal_digits args.n))
     call.ensures

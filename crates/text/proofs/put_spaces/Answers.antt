@@ -1,27 +1,17 @@
--- `text::put_spaces` meets its contract. The loop's invariant: the spaces before its index are written. Assumes nothing.
-use native.Mathlib.Numerals.{add-one}
-use mathlib.Core.Path.{subst}
-use Prim.Native.Nat.{ℕ, suc, ◌+◌, ◌≤◌}
+-- `text::put_spaces` meets its contract. Assumes nothing.
+use mathlib.Core.Path.{sym, ap, ◌∙◌}
+use Prim.Native.Nat.{◌+◌, ◌-◌}
 use native.Mathlib.Omega.{arith}
-use lib.ListN.{length, set}
+use lib.ListN.{drop, length-drop}
+use lib.Seq.{length-take-le}
 use Rattle.text.specs.Columns.{spaces}
-use Rattle.text.proofs.Columns.{spaces_length, spaces_at}
-use Rattle.text.proofs.Pieces.{Begun, begun_none, begun_more}
+use Rattle.text.proofs.Columns.{spaces_length}
+use Rattle.text.proofs.Pieces.{written_part}
 use Rattle.text.proofs.put_spaces.Goals as goal
-use Rattle.text.proofs.put_spaces.Goals.{Start}
 
--- there is room for all of them
-room : (start : Start) → start.args.at + length (spaces start.args.many) ≤ length start.args.output.now
-room start = omega (arith, spaces_length start.args.many, start.requires)
-
-pub loop-i-init : goal.loop-i-init
-loop-i-init c = begun_none _ _ _
-
-pub loop-i-preserved : goal.loop-i-preserved
-loop-i-preserved c =
-    let loop = c.loop-i in
+pub returns : goal.returns
+returns c =
     let args = c.args in
-    rw add-one
-    (subst (λ (x : ℕ). Begun args.output.now args.at (spaces args.many) (set loop.output (args.at + loop.i) x) (suc loop.i))
-    (spaces_at args.many loop.i (omega arith))
-    (begun_more loop.invariant (room (goal.at.loop-i-preserved c).Start) (omega (arith, spaces_length args.many))))
+    let part = drop args.at args.output.now in
+    written_part _ _ (spaces args.many) _ _ (sym (spaces_length args.many))
+    (c.fill.ensures.after (λ y e. e) ∙ ap spaces (length-take-le (args.at + args.many - args.at) part (omega (arith, length-drop args.at args.output.now)) ∙ omega arith))

@@ -6,6 +6,7 @@ use native.Mathlib.Omega.{arith}
 use lib.ListN.{length, get_or}
 use Rattle.measure.specs.Tag.{measure_at}
 use Rattle.paris_points.specs.Points.{size_of}
+use Rattle.treap_columns.specs.Lent.{lists_of}
 use Rattle.text.specs.Written.{Written}
 use Rattle.text_page_lines.specs.PageLines.{page_line}
 use Rattle.text_pages.specs.Shown.{shown_line}
@@ -17,15 +18,15 @@ abbrev made : After-key_at-above → List ℕ
 made c =
     let args = c.args in
     let i = args.i in
-    page_line (get_or args.keys.now i 0) (get_or args.rank.now i 0) (get_or args.count.now i 0) c.key_at-above.result (size_of (measure_at (get_or args.tags.now i 0)))
+    page_line (get_or args.keys.now i 0) (get_or args.columns.rank.now i 0) (get_or args.columns.count.now i 0) c.key_at-above.result (size_of (measure_at (get_or args.tags.now i 0)))
 
 line : (c : After-key_at-above)
-    → let args = c.args in made c ≡ shown_line args.keys.now args.tags.now args.rank.now args.count.now args.leader.now args.i
+    → let args = c.args in made c ≡ shown_line args.keys.now args.tags.now (lists_of args.columns) args.i
 unfolding shown_line
 line c =
     let args = c.args in
     let i = args.i in
-    ap (λ (above : ℕ). page_line (get_or args.keys.now i 0) (get_or args.rank.now i 0) (get_or args.count.now i 0) above (size_of (measure_at (get_or args.tags.now i 0)))) c.key_at-above.ensures
+    ap (λ (above : ℕ). page_line (get_or args.keys.now i 0) (get_or args.columns.rank.now i 0) (get_or args.columns.count.now i 0) above (size_of (measure_at (get_or args.tags.now i 0)))) c.key_at-above.ensures
 
 pub put_key_line-requires : goal.put_key_line-requires
 put_key_line-requires c =
@@ -34,7 +35,7 @@ put_key_line-requires c =
       lists.rank_small c.args.i inside,
       lists.count_small c.args.i inside,
       lists.tag_right c.args.i inside,
-      omega (arith, ap length (line (goal.at.put_key_line-requires c).After-key_at-above), c.requires.i_in_bounds),
+      omega (arith, ap length (line (goal.at.put_key_line-requires c).After-key_at-above), c.requires.room),
     )
 
 pub returns : goal.returns

@@ -1,14 +1,12 @@
 -- `text_pages::write` meets its contract. The loop's invariant: the pages from its index on are still to come. Assumes nothing.
 use mathlib.Core.List.{flat_map}
-use Prim.Native.Nat.{◌-◌, ◌≤◌}
+use Prim.Native.Nat.{◌-◌}
 use Rattle.lists.specs.Lists.{up_from}
+use Rattle.treap_columns.specs.Lent.{lists_of}
 use Rattle.text.proofs.Ongoing.{Ongoing}
 use Rattle.text_pages.specs.Shown.{shown_page, shown_pages}
 use Rattle.text_pages.proofs.write.Given as goal
 
 abbrev pub invariant-loop-before : goal.invariant-loop-before
-invariant-loop-before l = (l.before ≤ l.pages)
-    × Ongoing l.initial.output 0 (shown_pages l.keys l.tags l.rank l.count l.leader) (flat_map (shown_page l.keys l.tags l.rank l.count l.leader) (up_from l.before (l.pages - l.before))) l.output l.end
-
-abbrev pub decreases-loop-before : goal.decreases-loop-before
-decreases-loop-before l = l.pages - l.before
+invariant-loop-before l =
+    Ongoing l.initial.output 0 (shown_pages l.keys l.tags (lists_of l.columns)) (flat_map (shown_page l.keys l.tags (lists_of l.columns)) (up_from l.before (l.pages - l.before))) l.output l.end

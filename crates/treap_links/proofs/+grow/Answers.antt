@@ -94,8 +94,5 @@ loop-a-preserved t c =
     turned_right _ _ _ _ _ _ _ _ _ c.requires.hi_in_bounds.0 c.requires.hi_in_bounds.1 _ _ _ _ turn.at turn.invariant c.loop-a-test.true
     c.root_of-l.ensures c.root_of-r.ensures c.grow-else-i-a.ensures.left_after c.grow-else-i-a.ensures.right_after
 
-pub returns-clause-left_after : goal.returns-clause-left_after
-returns-clause-left_after t c = (grown_end _ _ _ _ _ c.loop-a.invariant c.loop-a-test.false).0
-
-pub returns-clause-right_after : goal.returns-clause-right_after
-returns-clause-right_after t c = (grown_end _ _ _ _ _ c.loop-a.invariant c.loop-a-test.false).1
+pub returns : goal.returns
+returns t c = let end = grown_end _ _ _ _ _ c.loop-a.invariant c.loop-a-test.false in record { left_after = end.0; right_after = end.1 }

@@ -10,4 +10,4 @@ pub loop-i-preserved : goal.loop-i-preserved
 loop-i-preserved c =
     let turn = c.loop-i in
     let call = c.overtake-b.ensures in
-    passing_turn _ _ _ c.requires.0 c.requires.1 turn.left turn.right turn.i turn.invariant c.loop-i-test.true _ _ call.nearest_before call.nearest_2 (search rules) call.right_unchanged
+    passing_turn _ _ _ c.requires.0 c.requires.1 turn.left turn.right turn.i turn.invariant c.loop-i-test.true _ _ call.nearest_before call.nearest_with_i (search rules) call.right_unchanged

@@ -18,14 +18,12 @@ loop-b-preserved c =
     let turn = c.loop-b in
     overtaking_turn _ _ _ _ c.requires.i_in_bounds.0 c.requires.i_in_bounds.2 c.requires.nearest _ _ turn.invariant c.loop-b-test.true (lt-ltb _ _ c.if-weights-b.true)
 
-pub returns-else-weights-b-clause-nearest_2 : goal.returns-else-weights-b-clause-nearest_2
-returns-else-weights-b-clause-nearest_2 c =
-    (overtaking_end _ _ _ _ c.requires.i_in_bounds.0 c.requires.i_in_bounds.2 c.requires.nearest _ _ c.loop-b.invariant (λ some. le-ltb _ _ c.if-weights-b.false)).1.0
+pub returns-else-weights-b : goal.returns-else-weights-b
+returns-else-weights-b c =
+    let end = overtaking_end _ _ _ _ c.requires.i_in_bounds.0 c.requires.i_in_bounds.2 c.requires.nearest _ _ c.loop-b.invariant (λ some. le-ltb _ _ c.if-weights-b.false) in
+    record { nearest_before = end.0; nearest_with_i = end.1.0; right_unchanged = end.1.1 }
 
-pub returns-else-weights-b-clause-nearest_before : goal.returns-else-weights-b-clause-nearest_before
-returns-else-weights-b-clause-nearest_before c =
-    (overtaking_end _ _ _ _ c.requires.i_in_bounds.0 c.requires.i_in_bounds.2 c.requires.nearest _ _ c.loop-b.invariant (λ some. le-ltb _ _ c.if-weights-b.false)).0
-
-pub returns-after-loop-b-clause-nearest_2 : goal.returns-after-loop-b-clause-nearest_2
-returns-after-loop-b-clause-nearest_2 c =
-    (overtaking_end _ _ _ _ c.requires.i_in_bounds.0 c.requires.i_in_bounds.2 c.requires.nearest _ _ c.loop-b.invariant (λ some. absurd (omega arith))).1.0
+pub returns-after-loop-b : goal.returns-after-loop-b
+returns-after-loop-b c =
+    let end = overtaking_end _ _ _ _ c.requires.i_in_bounds.0 c.requires.i_in_bounds.2 c.requires.nearest _ _ c.loop-b.invariant (λ some. absurd (omega arith)) in
+    record { nearest_before = end.0; nearest_with_i = end.1.0; right_unchanged = end.1.1 }

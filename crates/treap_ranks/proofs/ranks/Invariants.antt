@@ -11,6 +11,3 @@ invariant-loop-j l = (l.j ≤ l.n)
     × Kept (length l.weights) l.initial.rank l.rank
     × Kept (length l.weights) l.initial.count l.count
     × Ranked l.alpha l.weights (drop l.j (take l.n l.order)) l.rank l.count
-
-abbrev pub decreases-loop-j : goal.decreases-loop-j
-decreases-loop-j l = l.j

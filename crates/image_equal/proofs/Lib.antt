@@ -1,2 +1,0 @@
--- Laws of comparing lists.
-pub mod SameBytes

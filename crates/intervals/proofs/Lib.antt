@@ -1,0 +1,2 @@
+-- What the library says, in the words of the contracts.
+mod Chosen

@@ -1,2 +1,0 @@
--- Laws of integers.
-mod Distance
