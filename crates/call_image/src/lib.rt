@@ -2,6 +2,8 @@
 // as it was.
 #![tactic(auto)]
 
+mod apart;
+
 ghost use Rattle.std.specs.Prelude.{◌≡◌, ◌<◌, ◌≤◌, length};
 ghost use Rattle.table.specs.Layout.{most_slots, table_words};
 ghost use Rattle.call_replies.specs.Replies.{done_of, sized_of};
@@ -73,7 +75,7 @@ fn read_in(
     ensures reply_value { done_of result ≡ read_reply table.old image.now }
     ensures table_after { table.new ≡ read_after table.old image.now }
 {
-    let Some(n) = image_recognize::recognize(image, keys, tags, constants) else {
+    let Some(n) = apart::recognize(image, keys, tags, constants) else {
         return Err(Refusal::NotAnImage);
     };
     if many < n {
@@ -81,7 +83,7 @@ fn read_in(
     }
     let salt = image_collect::salt_shown(image);
     let order = image_fields::get(image, ORDER_AT, ORDER_BYTES);
-    table_write::write(order, &keys[..n], &tags[..n], many, table, constants, salt);
+    apart::write(order, &keys[..n], &tags[..n], many, table, constants, salt);
     Ok(())
 }
 
