@@ -1,7 +1,7 @@
 // Looking a batch of keys up together, in a table of any words. A batch is document 02's sheet, a question one of its records.
 #![tactic(auto)]
 
-ghost use Rattle.std.specs.Prelude.{true, map, ◌≡◌, length};
+ghost use Rattle.std.specs.Prelude.{true, map, ◌≡◌, ◌<◌, length};
 ghost use Rattle.table.specs.Contents.{rising_keys};
 ghost use Rattle.table_limits.specs.Lengths.{slots_for};
 ghost use Rattle.table_judge.specs.Judge.{is_sound};
@@ -105,6 +105,21 @@ fn fill(table: &[u64], many: usize, constants: &Constants, questions: &mut [Ques
     so_far.blocks
 }
 
+// Answer a batch whose keys rise, over a table of `many` slots, with the constants of the priorities made for it, once for the judging and for
+// all lines. Not put in line: a batch that is refused before would clear their room too.
+#[inline(never)]
+fn answer(table: &[u64], many: usize, questions: &mut [Question]) -> Result<usize, Refusal>
+    requires { (many ≡ slots_for (length table.now)) × (0 < many) × (rising_keys (keys_of questions.old) ≡ true) }
+    ensures reply_value { sized_of result ≡ batch_reply table.now questions.old }
+    ensures questions_after { questions.new ≡ batch_after table.now questions.old }
+{
+    let constants = Constants::new();
+    if !table_judge::judge(table, &constants) {
+        return Err(Refusal::NotSound);
+    }
+    Ok(fill(table, many, &constants, questions))
+}
+
 // Look the keys of a batch up, and fill in at each whether it is held, and its rank; how many different blocks hold the keys compared. The
 // table is judged once. Refusals: 1, 5, 7; then no line is filled in.
 pub fn look_up_batch(table: &[u64], questions: &mut [Question]) -> Result<usize, Refusal>
@@ -117,9 +132,5 @@ pub fn look_up_batch(table: &[u64], questions: &mut [Question]) -> Result<usize,
     if !rising(questions) {
         return Err(Refusal::NotRising);
     }
-    let constants = Constants::new();
-    if !table_judge::judge(table, &constants) {
-        return Err(Refusal::NotSound);
-    }
-    Ok(fill(table, many, &constants, questions))
+    answer(table, many, questions)
 }

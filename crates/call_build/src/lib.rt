@@ -61,6 +61,8 @@ fn write_within(
 }
 
 // Write the table of an order, a salt and keys with the measures beside them, with room for the tags, and the constants of the priorities made for it.
+// Not put in line: a build that is refused would clear this room too.
+#[inline(never)]
 fn write(
     order: u64,
     keys: &[u64],

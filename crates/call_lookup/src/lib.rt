@@ -1,13 +1,30 @@
 // Looking a key up in a table of any words.
 #![tactic(auto)]
 
-ghost use Rattle.std.specs.Prelude.{◌≡◌};
+ghost use Rattle.std.specs.Prelude.{◌≡◌, ◌<◌, ◌≤◌, length};
+ghost use Rattle.table_limits.specs.Lengths.{slots_for};
 ghost use Rattle.call_replies.specs.Replies.{looked_up_of, correction_of};
 ghost use Rattle.call_meaning.specs.Calls.{lookup_reply, lookup_correction};
 
 use call_replies::Refusal;
 use priority::Constants;
 use table_descend::Looked;
+
+// Look a key up, which is not zero, in a table of `many` slots, with the constants of the priorities made for it.
+// Not put in line: a lookup that is refused before would clear the room of the constants too.
+#[inline(never)]
+fn look_up_in(table: &[u64], many: usize, key: u64) -> Result<Looked, Refusal>
+    requires { (many ≡ slots_for (length table.now)) × (0 < many) × (1 ≤ key) }
+    ensures reply_value { looked_up_of result ≡ lookup_reply table.now key }
+    ensures correction_value { correction_of result ≡ lookup_correction table.now key }
+{
+    let constants = Constants::new();
+    if !table_judge::judge(table, &constants) {
+        return Err(Refusal::NotSound);
+    }
+    let looked = table_descend::look_up(table, many, key, &constants);
+    Ok(looked)
+}
 
 // Look a key up: where it stands if it is held, with its measure, and how many blocks hold the keys compared. Refusals: 1, 3, 7.
 pub fn look_up(table: &[u64], key: u64) -> Result<Looked, Refusal>
@@ -20,9 +37,5 @@ pub fn look_up(table: &[u64], key: u64) -> Result<Looked, Refusal>
     if key == 0 {
         return Err(Refusal::ZeroKey);
     }
-    let constants = Constants::new();
-    if !table_judge::judge(table, &constants) {
-        return Err(Refusal::NotSound);
-    }
-    Ok(table_descend::look_up(table, many, key, &constants))
+    look_up_in(table, many, key)
 }

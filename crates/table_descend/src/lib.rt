@@ -43,6 +43,8 @@ struct Place {
 }
 
 // The place of a key that the table holds: its priority is worked out, and handed to the search. The constants of the priorities are lent.
+// In line, so that a place stays in registers on the way down.
+#[inline(always)]
 fn place_of(table: &[u64], many: usize, key: u64, constants: &Constants) -> Place
     requires { (0 < many) × (many ≤ most_slots) × (length table.now ≡ table_words many) × (sound_with many table.now ≡ true) × (member key (keys_in (contents_of many table.now)) ≡ true) }
     ensures placed { Placed many table.now result }
@@ -101,6 +103,7 @@ fn low_after(low: u64, at: u64, key: u64) -> u64
 }
 
 // Whether the way down that goes on from `at` to `next` enters a block that the search for an earlier key, `other`, did not.
+#[inline(always)]
 fn is_new_block(
     table: &[u64],
     many: usize,

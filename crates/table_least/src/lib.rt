@@ -28,10 +28,15 @@ pub fn least_within(table: &[u64], many: usize, low: u64, high: u64) -> Option<u
     requires { table_words many ≤ length table.now }
     ensures { IsOrZero result (least_within low high (keys_in (contents_of many table.now))) }
 {
-    let (slots, _) = table[HEADER_WORDS..].as_chunks::<SLOT_WORDS>();
+    // By number: a program that skips a slot is then refused by a fact; over a slice of the slots a right one was refused too.
     let mut least = None;
-    for slot in &slots[..many] {
-        least = lesser_of(least, slot[KEY_FIELD], low, high);
+    for slot in 0..many {
+        least = lesser_of(
+            least,
+            table[HEADER_WORDS + SLOT_WORDS * slot + KEY_FIELD],
+            low,
+            high,
+        );
     }
     least
 }

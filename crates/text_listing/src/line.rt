@@ -28,6 +28,7 @@ pub enum Line {
 
 impl Line {
     // How long it is.
+    #[inline(always)]
     pub fn length(self) -> usize
         ensures value { result ≡ length (text_of self) }
         ensures upper_bound { result ≤ most_growth * record_bytes self }
@@ -50,6 +51,7 @@ impl Line {
     }
 
     // Write it. The index after it.
+    #[inline(always)]
     pub fn put(self, output: &mut [u8], at: usize) -> usize
         requires { at + length (text_of self) ≤ length output.old }
         ensures { Written output.old at (text_of self) output.new result }

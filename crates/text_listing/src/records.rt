@@ -32,6 +32,7 @@ pub fn header_line(image: &[u8]) -> Line
 }
 
 // The line of a block's record.
+#[inline(always)]
 fn block_line(block: &[u8]) -> Line
     requires { block_bytes ≤ length block.now }
     ensures { result ≡ block_in block.now }
@@ -47,6 +48,7 @@ fn block_line(block: &[u8]) -> Line
 }
 
 // The line of a node record.
+#[inline(always)]
 fn key_line(node: &[u8]) -> Line
     requires { node_bytes ≤ length node.now }
     ensures { result ≡ key_in node.now }
@@ -91,6 +93,8 @@ impl<'a> Iterator for Records<'a> {
 
     ghost remaining = { λ left. at_most (length left.bytes.now) };
 
+    // Put in line with `length` and `put`, whose match then goes by the kind that is known here.
+    #[inline(always)]
     fn next(&mut self) -> Option<Line> {
         let bytes = self.bytes;
         if 0 < self.keys {

@@ -7,7 +7,7 @@ pub returns-then-position-eq0 : goal.returns-then-position-eq0
 returns-then-position-eq0 c =
     let args = c.args in
     let (key, (left, (right, (leader, (rank, (count, (long, stored))))))) = c.default.ensures in
-    rw (key, left, right, leader, rank, count, long, stored)
+    simp (key, left, right, leader, rank, count, long, stored)
     (slot_none args.keys.now args.tags.now (lists_of args.columns) args.position c.if-position-eq0.true)
 
 pub returns : goal.returns

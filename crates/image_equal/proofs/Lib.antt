@@ -1,0 +1,2 @@
+-- Laws of comparing lists.
+pub mod SameBytes
