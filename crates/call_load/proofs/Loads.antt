@@ -1,45 +1,36 @@
 -- What a set-up's answer says of a load's reply and of the table after it. Assumes nothing.
 use mathlib.Core.Bool.{true}
 use mathlib.Core.List.{List, [], ◌∷◌}
-use mathlib.Core.Path.{◌≡◌, sym, ap, ◌∙◌, subst}
+use mathlib.Core.Path.{◌≡◌, refl, sym, ap, ◌∙◌, subst}
 use Prim.Native.Nat.{ℕ, ◌<◌, ◌≤◌}
 use native.Mathlib.Omega.{arith}
 use lib.ListN.{length}
-use borrow.Author.Tests.{not-false}
-use Rattle.std.specs.Prelude.{Result, Ok, Err, Some, None}
+use borrow.Author.Tests.{eqb-false, not-false}
+use Rattle.std.specs.Prelude.{Option, Ok, Some, is_some}
 use Rattle.table.specs.Layout.{most_slots, table_words}
 use Rattle.table.specs.Contents.{Contents, Valid, new_order}
 use Rattle.table.specs.Table.{fresh, contents_of}
 use Rattle.table.specs.Sound.{sound_with}
 use Rattle.table.proofs.Words.{fresh_length}
 use Rattle.table_limits.specs.Lengths.{slots_for, slots_if}
-use Rattle.table_limits.proofs.Lengths.{slots_none, slots_some, slots_sized}
+use Rattle.table_limits.proofs.Lengths.{slots_for_some, slots_some, slots_sized, if_some}
 use Rattle.call_sets.specs.Load.{loaded}
 use Rattle.call_replies.specs.Replies.{Reply, done_of}
-use Rattle.call_replies.specs.declared.Refusal.{Refusal}
-use Rattle.call_replies.specs.declared.Refusal.TheVariants.{WrongLength}
-use Rattle.call_replies.proofs.Refusals.{numbered, none_applies, refused_stays}
+use Rattle.call_replies.proofs.Refusals.{none_applies, refused_stays}
 use Rattle.call_meaning.specs.Reasons.{wrong_length, wrong_order}
 use Rattle.call_meaning.specs.Calls.{rewritten, set_up_refusal, set_up_reply, set_up_after, load_refusal, load_reply, load_after}
 use Rattle.call_changes.proofs.Written.{sound_again, shows}
 use Rattle.call_changes.proofs.Loading.{blank_valid}
 
 module _ (words : List ℕ) (order seed count : ℕ) where
-  -- What a load that answers so and leaves these words meets.
-  abbrev pub Meets : Result Unit Refusal → List ℕ → Type 0
-  Meets answer after = (done_of answer ≡ load_reply words order) × (after ≡ load_after words order seed count)
+  -- a load replies as its set-up does, and leaves the same words where that is refused
+  pub replies_alike : load_reply words order ≡ set_up_reply words order
+  unfolding set_up_reply set_up_refusal load_reply load_refusal
+  replies_alike = refl
 
-  pub refused_length : slots_if (slots_for (length words)) ≡ None → Meets (Err WrongLength) words
-  unfolding load_reply load_after load_refusal wrong_length
-  refused_length e = let none = slots_none (slots_for (length words)) e in (rw none, rw none)
-
-  -- a refused set-up is a refused load
-  pub refused : (reason : Refusal) → done_of (Err reason) ≡ set_up_reply words order → (after : List ℕ) → after ≡ set_up_after words order 0
-      → Meets (Err reason) after
-  unfolding set_up_reply set_up_after set_up_refusal load_reply load_after load_refusal
-  refused reason e after left =
-      let some : 1 ≤ load_refusal words order = subst (λ (n : ℕ). 1 ≤ n) (ap (λ (r : Reply). r.refusal) e) (numbered reason) in
-      (e, left ∙ refused_stays (load_refusal words order) some _ words ∙ sym (refused_stays (load_refusal words order) some _ words))
+  pub refused_alike : 1 ≤ (set_up_reply words order).refusal → load_after words order seed count ≡ set_up_after words order 0
+  unfolding set_up_reply set_up_after set_up_refusal load_after load_refusal
+  refused_alike some = refused_stays (load_refusal words order) some _ words ∙ sym (refused_stays (load_refusal words order) some _ words)
 
   -- What is known of the words after a set-up that was accepted.
   pub record Begun (many : ℕ) (after : List ℕ) : Type 0 where
@@ -50,6 +41,15 @@ module _ (words : List ℕ) (order seed count : ℕ) where
     pub long : length after ≡ table_words many
     pub sound : sound_with many after ≡ true
     pub holds : contents_of many after ≡ record { order = order; salt = 0; entries = [] }
+
+  -- words that were set up have a table's length
+  pub slots_there : done_of (Ok tt) ≡ set_up_reply words order → is_some (slots_if (slots_for (length words))) ≡ true
+  unfolding set_up_reply set_up_refusal wrong_length wrong_order
+  slots_there e =
+      let spared = none_applies (wrong_length words ∷ wrong_order order ∷ []) (omega arith) (sym (ap (λ (r : Reply). r.refusal) e)) in
+      let many = slots_for (length words) in
+      let right = slots_for_some (length words) (eqb-false many 0 spared.0) in
+      subst (λ (o : Option ℕ). is_some o ≡ true) (if_some many many refl right.some) refl
 
   pub begun : done_of (Ok tt) ≡ set_up_reply words order → (many : ℕ) → slots_if (slots_for (length words)) ≡ Some many → (after : List ℕ)
       → after ≡ set_up_after words order 0 → Begun many after
@@ -76,7 +76,7 @@ module _ (words : List ℕ) (order seed count : ℕ) where
   -- the operations done
   pub done_so : (many : ℕ) (after : List ℕ) → Begun many after → (last : List ℕ)
       → last ≡ fresh many (record { order = (contents_of many after).order; salt = (contents_of many after).salt; entries = loaded many seed count })
-      → Meets (Ok tt) last
+      → (done_of (Ok tt) ≡ load_reply words order) × (last ≡ load_after words order seed count)
   unfolding load_reply load_after rewritten
   done_so many after b last e = (
     rw b.accepted,

@@ -7,7 +7,7 @@ use Prim.Native.Nat.{ℕ}
 use lib.Dec.{eqb}
 use lib.ListN.{length}
 use borrow.Author.Tests.{eq-eqb, ne_eqb}
-use Rattle.std.specs.Prelude.{Result, Ok, Err}
+use Rattle.std.specs.Prelude.{Result, Ok, Err, None}
 use Rattle.lists.specs.Lists.{member}
 use Rattle.lists.proofs.Tests.{by_test}
 use Rattle.treap.specs.Blocks.{blocks_met}
@@ -36,6 +36,10 @@ answer_is c key = by_test (member key (keys_in c)) (λ e. rw e) (λ e. rw (e, no
 correction_is : (c : Contents) (key : ℕ) → correction_of (Ok (looked_up c key)) ≡ (measure_in c.entries key).correction
 unfolding looked_up standing_of
 correction_is c key = by_test (member key (keys_in c)) (λ e. rw e) (λ e. rw (e, not_found c.entries key e))
+
+-- a way down that finds no standing has the answer of an absent key
+pub absent_is : (found : Looked) → found.standing ≡ None → record { standing = None; blocks = found.blocks } ≡ found
+absent_is found e i = record { standing = sym e i; blocks = found.blocks }
 
 module _ (words : List ℕ) (key : ℕ) where
   -- What a lookup that answers so meets.

@@ -23,7 +23,14 @@ fn look_up_in(table: &[u64], many: usize, key: u64) -> Result<Looked, Refusal>
         return Err(Refusal::NotSound);
     }
     let looked = table_descend::look_up(table, many, key, &constants);
-    Ok(looked)
+    // An arm for a held key and one for an absent one, so that each answer is proved by itself.
+    match looked.standing {
+        Some(_) => Ok(looked),
+        None => Ok(Looked {
+            standing: None,
+            blocks: looked.blocks,
+        }),
+    }
 }
 
 // Look a key up: where it stands if it is held, with its measure, and how many blocks hold the keys compared. Refusals: 1, 3, 7.

@@ -8,7 +8,7 @@ use Rattle.table_limits.specs.Lengths.{slots_for}
 use Rattle.table_limits.proofs.Lengths.{slots_for_some}
 use Rattle.table_judge.specs.Judge.{is_sound}
 use Rattle.table_judge.proofs.Decides.{decided_with}
-use Rattle.call_lookup.proofs.LookingUp.{refused_table, accepted}
+use Rattle.call_lookup.proofs.LookingUp.{absent_is, refused_table, accepted}
 use Rattle.call_lookup.proofs.look_up_in.Goals as goal
 use Rattle.call_lookup.proofs.look_up_in.Goals.{Else-not-judge, Start}
 
@@ -37,8 +37,14 @@ look_up-looked-requires c =
       sym (decided_with c.args.table.now c.args.many (sym c.requires.0) (λ e. omega (arith, c.requires.1, e))) ∙ passed at.Else-not-judge,
     )
 
-pub returns : goal.returns
-returns c =
-    let at = goal.at.returns c in
+pub returns-in-Some : goal.returns-in-Some
+returns-in-Some c =
+    let at = goal.at.returns-in-Some c in
     accepted c.args.table.now c.args.key (some at.Start) (positive at.Start) (passed at.Else-not-judge) c.args.many c.requires.0
     c.look_up-looked.result c.look_up-looked.ensures
+
+pub returns-in-None : goal.returns-in-None
+returns-in-None c =
+    let at = goal.at.returns-in-None c in
+    accepted c.args.table.now c.args.key (some at.Start) (positive at.Start) (passed at.Else-not-judge) c.args.many c.requires.0
+    _ (absent_is c.look_up-looked.result c.in-None.is ∙ c.look_up-looked.ensures)
