@@ -121,14 +121,14 @@ fn operate_within(table: &mut [u64], many: usize, seed: u64, count: u16)
 }
 
 // Make of any words of a right length the table of an order, of salt zero and of the keys that `count` operations after a seed leave. Refusals: 1, 2.
-// The laws that are named find what a refused set-up leaves to show.
+// By the laws named here the check finds what a refused set-up leaves to show.
 #[tactic(auto, using(crate::proofs::Loads::replies_alike, crate::proofs::Loads::refused_alike, call_replies::proofs::Refusals::numbered))]
 pub fn load(table: &mut [u64], order: u64, seed: u64, count: u16) -> Result<(), Refusal>
     ensures result_value { done_of result ≡ load_reply table.old order }
     ensures table_after { table.new ≡ load_after table.old order seed count }
 {
     let slots = table_limits::slots_for(table.len());
-    // Not `?`: an edit of this return loses both refusals, and is refused for that.
+    // Not `?`: both refusals leave by this return, and the edits of must-fail/ that lose them stand at it.
     if let Err(reason) = call_build::set_up(table, order, LOAD_SALT) {
         return Err(reason);
     }

@@ -23,7 +23,7 @@ fn look_up_in(table: &[u64], many: usize, key: u64) -> Result<Looked, Refusal>
         return Err(Refusal::NotSound);
     }
     let looked = table_descend::look_up(table, many, key, &constants);
-    // An arm for a held key and one for an absent one, so that each answer is proved by itself.
+    // The arms answer alike; each is proved by itself, so that the edits of must-fail/ are wrong of held or of absent keys alone.
     match looked.standing {
         Some(_) => Ok(looked),
         None => Ok(Looked {
