@@ -13,13 +13,13 @@ pub unwrap-requires : goal.unwrap-requires
 unwrap-requires c =
     let args = c.args in
     subst (λ (o : Option ℕ). IsSome o) (sym c.slots_for-slots.ensures)
-    (slots_there args.table.now args.order args.seed args.count (sym (ap done_of c.in_default.is) ∙ c.set_up.ensures.result_value))
+    (slots_there args.table.now args.order (sym (ap done_of c.in_default.is) ∙ c.set_up.ensures.result_value))
 
 -- past the refusals
-begun_at : (p : After-unwrap) → Begun p.args.table.now p.args.order p.args.seed p.args.count p.unwrap.result p.set_up.new.table
+begun_at : (p : After-unwrap) → Begun p.args.table.now p.args.order p.unwrap.result p.set_up.new.table
 begun_at p =
     let args = p.args in
-    begun args.table.now args.order args.seed args.count (sym (ap done_of p.in_default.is) ∙ p.set_up.ensures.result_value)
+    begun args.table.now args.order (sym (ap done_of p.in_default.is) ∙ p.set_up.ensures.result_value)
     p.unwrap.result (sym p.slots_for-slots.ensures ∙ p.unwrap.ensures) p.set_up.new.table p.set_up.ensures.table_after
 
 pub operate_within-requires-clause-sized : goal.operate_within-requires-clause-sized
